@@ -1,0 +1,5 @@
+pub mod Computing
+pub mod Figures
+pub mod Rules
+pub mod Limits
+pub mod Shares

@@ -1,0 +1,185 @@
+-- What the assessment of one row promises: shortfall or bonus, never both, and bounds of its figures.
+use Prim.Native.Nat.{ℕ, suc, _+_, _-_, _*_, _/_, _≤_, min}
+use mathlib.Core.Path.{_≡_}
+use mathlib.Core.Logic.{_⊎_, inl, inr, ⊎-elim}
+use mathlib.Core.List.{List, List·Memᴰ}
+use mathlib.Core.Bool.{Bool, true, false, cond}
+use native.Mathlib.Nat.{mul-le-mul-right}
+use native.Mathlib.Decide.{decLe}
+use native.Mathlib.Omega.{arith}
+use lib.ListN.{length}
+use lib.IntN.{ℤ, pos, negsuc, natAbs, _+ℤ_, subℕ}
+use lib.Dec.{ltb, eqb}
+use Rattle.words.proofs.Lists.{sum-most}
+use Rattle.reading.specs.Interval.{mostKilowatts, mostImports, mostRows, Header, Row, Kind, generation, demand, efficiency, responsive, energyOnly, noKind, kindOf}
+use Rattle.reading.proofs.Bounds.{HeaderIn, RowIn}
+use Rattle.assessment.specs.Assessment.{orZero, actual, considered, ifConsidered, Ratio, portion, expectedAs, expected, bonusActualAs, bonus, numeratorShareAs, numeratorShare, importShare, numerator, denominatorShareAs, denominator, wholeRatio, printedRatio, outageAs, outage, economicRule, economicAs, economic, shortfall, RowFigures, rowFigures}
+
+-- a word that is given only if its row is considered is no larger
+pub if-le : (r : Row) (x : ℕ) → ifConsidered r x ≤ x
+unfolding ifConsidered
+if-le r x = by (considered r)
+  where
+    by : (t : Bool) → cond t x 0 ≤ x
+    by true = omega arith
+    by false = omega arith
+
+-- and 0 where the word is
+pub if-zero : (r : Row) (x : ℕ) → x ≡ 0 → ifConsidered r x ≡ 0
+if-zero r x e = omega (arith, if-le r x)
+
+portion-le : (q : Ratio) (whole : ℕ) → portion q whole ≤ whole
+unfolding portion
+portion-le q whole = by (eqb (q .denominator) 0)
+  where
+    by : (t : Bool) → cond t 0 (min (whole * q .numerator / q .denominator) whole) ≤ whole
+    by true = omega arith
+    by false = omega arith
+
+pub printed-le : (q : Ratio) → printedRatio q ≤ wholeRatio
+unfolding printedRatio
+printed-le q = portion-le q wholeRatio
+
+expected-le : (k : Kind) (q : Ratio) (r : Row) → expectedAs k q r ≤ r .committed
+unfolding expectedAs
+expected-le generation q r = portion-le q (r .committed)
+expected-le demand q r = omega arith
+expected-le efficiency q r = omega arith
+expected-le responsive q r = omega arith
+expected-le energyOnly q r = omega arith
+expected-le noKind q r = omega arith
+
+bonus-actual-le : (k : Kind) (r : Row) → bonusActualAs k r ≤ actual r
+unfolding bonusActualAs
+bonus-actual-le generation r = omega arith
+bonus-actual-le demand r = omega arith
+bonus-actual-le efficiency r = omega arith
+bonus-actual-le responsive r = omega arith
+bonus-actual-le energyOnly r = omega arith
+bonus-actual-le noKind r = omega arith
+
+bonus-le : (r : Row) (e : ℕ) → bonus r e ≤ actual r - e
+unfolding bonus
+bonus-le r e = omega (arith, bonus-actual-le (kindOf (r .kind)) r)
+
+shortfall-le : (r : Row) (e : ℕ) → shortfall r e ≤ e - actual r
+unfolding shortfall
+shortfall-le r e = omega arith
+
+outage-le : (k : Kind) (r : Row) → outageAs k r ≤ r .planned
+unfolding outageAs
+outage-le generation r = omega arith
+outage-le demand r = omega arith
+outage-le efficiency r = omega arith
+outage-le responsive r = omega arith
+outage-le energyOnly r = omega arith
+outage-le noKind r = omega arith
+
+economic-le : (k : Kind) (r : Row) (e : ℕ) → economicAs k r e ≤ e
+unfolding economicAs economicRule
+economic-le generation r e = omega arith
+economic-le demand r e = omega arith
+economic-le efficiency r e = omega arith
+economic-le responsive r e = omega arith
+economic-le energyOnly r e = omega arith
+economic-le noKind r e = omega arith
+
+orZero-subℕ : (m n : ℕ) → orZero (subℕ m n) ≤ m
+unfolding orZero
+orZero-subℕ m n = by (ltb m n)
+  where
+    by : (t : Bool) → orZero (cond t (negsuc (n - suc m)) (pos (m - n))) ≤ m
+    by true = omega arith
+    by false = omega arith
+
+orZero-le : (z : ℤ) → orZero z ≤ natAbs z
+unfolding orZero
+orZero-le (pos n) = omega arith
+orZero-le (negsuc n) = omega arith
+
+-- the sum of two signed numbers, or 0 if it is negative, is at most both magnitudes
+orZero-sum : (x y : ℤ) → orZero (x +ℤ y) ≤ natAbs x + natAbs y
+unfolding orZero
+orZero-sum (pos m) (pos n) = omega arith
+orZero-sum (pos m) (negsuc n) = omega (arith, orZero-subℕ m (suc n))
+orZero-sum (negsuc m) (pos n) = omega (arith, orZero-subℕ n (suc m))
+orZero-sum (negsuc m) (negsuc n) = omega arith
+
+actual-le : (r : Row) → RowIn r → actual r ≤ 2 * mostKilowatts
+unfolding actual
+actual-le r i = omega (arith, orZero-sum (r .metered) (r .adjustment), i .metered, i .adjustment)
+
+-- no row has a shortfall and a bonus, whatever is expected of it
+never-both : (r : Row) (e : ℕ) → (shortfall r e ≡ 0) ⊎ (bonus r e ≡ 0)
+never-both r e = elim (decLe e (actual r)) [ yes h ↦ inl (omega (arith, shortfall-le r e)) | no h ↦ inr (omega (arith, bonus-le r e)) ]
+
+pub exclusive : (q : Ratio) (r : Row) → (rowFigures q r .shortfall ≡ 0) ⊎ (rowFigures q r .bonus ≡ 0)
+unfolding rowFigures
+exclusive q r = ⊎-elim (λ h. inl (if-zero r (shortfall r (expected q r)) h)) (λ h. inr (if-zero r (bonus r (expected q r)) h)) (never-both r (expected q r))
+
+-- the figures of a row that ground 13 does not refuse
+pub record FiguresIn (f : RowFigures) : Type 0 where
+  pub expected : f .expected ≤ mostKilowatts
+  pub actual : f .actual ≤ 2 * mostKilowatts
+  pub outage : f .outage ≤ mostKilowatts
+  pub economic : f .economic ≤ mostKilowatts
+  pub shortfall : f .shortfall ≤ mostKilowatts
+  pub bonus : f .bonus ≤ 2 * mostKilowatts
+
+pub figures-in : (q : Ratio) (r : Row) → RowIn r → FiguresIn (rowFigures q r)
+unfolding rowFigures expected outage economic
+figures-in q r i =
+    let k = kindOf (r .kind) in
+    let e = expectedAs k q r in
+    let expect : e ≤ mostKilowatts = omega (arith, expected-le k q r, i .committed) in
+    record {
+      expected = omega (arith, if-le r e, expect);
+      actual = omega (arith, if-le r (actual r), actual-le r i);
+      outage = omega (arith, if-le r (outageAs k r), outage-le k r, i .planned);
+      economic = omega (arith, if-le r (economicAs k r e), economic-le k r e, expect);
+      shortfall = omega (arith, if-le r (shortfall r e), shortfall-le r e, expect);
+      bonus = omega (arith, if-le r (bonus r e), bonus-le r e, actual-le r i);
+    }
+
+share-le : (k : Kind) (r : Row) → numeratorShareAs k r ≤ actual r
+unfolding numeratorShareAs
+share-le generation r = omega arith
+share-le demand r = omega (arith, bonus-le r (r .committed))
+share-le efficiency r = omega arith
+share-le responsive r = omega (arith, bonus-le r (r .committed))
+share-le energyOnly r = omega arith
+share-le noKind r = omega arith
+
+imports-le : (h : Header) → importShare h ≤ natAbs (h .imports)
+unfolding importShare
+imports-le h = by (eqb (h .regionWide) 1)
+  where
+    by : (t : Bool) → cond t (orZero (h .imports)) 0 ≤ natAbs (h .imports)
+    by true = orZero-le (h .imports)
+    by false = omega arith
+
+-- the numerator and the denominator of a file that grounds 9, 11 and 13 do not refuse
+pub numerator-le : (h : Header) (rs : List Row) → HeaderIn h → length rs ≤ mostRows → ((r : Row) → List·Memᴰ r rs → RowIn r)
+    → numerator h rs ≤ mostRows * (2 * mostKilowatts) + mostImports
+unfolding numerator numeratorShare
+numerator-le h rs i few rows =
+    let each : (r : Row) → List·Memᴰ r rs → ifConsidered r (numeratorShareAs (kindOf (r .kind)) r) ≤ 2 * mostKilowatts
+    = λ r m. omega (arith, if-le r (numeratorShareAs (kindOf (r .kind)) r), share-le (kindOf (r .kind)) r, actual-le r (rows r m)) in
+    let all = sum-most (λ r. ifConsidered r (numeratorShareAs (kindOf (r .kind)) r)) (2 * mostKilowatts) rs each in
+    omega (arith, all, mul-le-mul-right (2 * mostKilowatts) few, imports-le h, i .imports)
+
+denominator-share-le : (k : Kind) (r : Row) → denominatorShareAs k r ≤ r .committed
+unfolding denominatorShareAs
+denominator-share-le generation r = omega arith
+denominator-share-le demand r = omega arith
+denominator-share-le efficiency r = omega arith
+denominator-share-le responsive r = omega arith
+denominator-share-le energyOnly r = omega arith
+denominator-share-le noKind r = omega arith
+
+pub denominator-le : (rs : List Row) → length rs ≤ mostRows → ((r : Row) → List·Memᴰ r rs → RowIn r) → denominator rs ≤ mostRows * mostKilowatts
+unfolding denominator
+denominator-le rs few rows =
+    let each : (r : Row) → List·Memᴰ r rs → denominatorShareAs (kindOf (r .kind)) r ≤ mostKilowatts
+    = λ r m. omega (arith, denominator-share-le (kindOf (r .kind)) r, rows r m .committed) in
+    omega (arith, sum-most (λ r. denominatorShareAs (kindOf (r .kind)) r) mostKilowatts rs each, mul-le-mul-right mostKilowatts few)

@@ -1,0 +1,121 @@
+-- The shares of a pool, each rounded down: together at most the pool, and the rest is less than the number of shares above 0.
+use Prim.Native.Nat.{ℕ, _+_, _*_, _/_, _<_, _≤_}
+use mathlib.Core.Path.{_≡_, refl, sym, ap, _∙_, subst}
+use mathlib.Core.List.{List, [], _∷_, Memᴰ·of-map}
+use mathlib.Core.Bool.{Bool, true, false, cond}
+use native.Mathlib.Nat.{div-mul-le-self, lt-div-mul-add, mul-le-mul-right, le-of-mul-le-mul-right, lt-of-mul-lt-mul-right, zero-mul, zero-div}
+use native.Mathlib.Omega.{arith}
+use lib.Dec.{ltb, eqb}
+use borrow.Author.Tests.{ltb-false, eqb-false, ne-eqb}
+use Rattle.words.specs.Lists.{sum}
+use Rattle.words.proofs.Lists.{sum-zero, sum-le, sum-same}
+use Rattle.reading.specs.Block.{Terms}
+use Rattle.reading.specs.Interval.{Header, Row}
+use Rattle.assessment.specs.Assessment.{considered, ifConsidered, Ratio, ratioOf, expected, bonus, rowFigures, Account, chargedRow, Assessed, assessed, totalBonus, pool, share, credit, credits, carriedOn}
+use Rattle.assessment.proofs.Rules.{if-le}
+
+-- where some weight is above 0, one is counted
+counted : {A : Type 0} (w : A → ℕ) (xs : List A) → 0 < sum w xs → 0 < sum (λ x. cond (ltb 0 (w x)) 1 0) xs
+unfolding sum
+counted w [] h = h
+counted w (x ∷ xs) h = by (ltb 0 (w x)) refl (counted w xs)
+  where
+    by : (t : Bool) → ltb 0 (w x) ≡ t → (0 < sum w xs → 0 < sum (λ y. cond (ltb 0 (w y)) 1 0) xs) → 0 < cond t 1 0 + sum (λ y. cond (ltb 0 (w y)) 1 0) xs
+    by true e below = omega arith
+    by false e below = omega (arith, below (omega (arith, ltb-false 0 (w x) e)))
+
+-- shares of cents by weight, over any whole
+module _ {A : Type 0} (w : A → ℕ) (cents whole : ℕ) where
+  shares-le : (xs : List A) → sum (λ x. w x * cents / whole) xs * whole ≤ sum w xs * cents
+  unfolding sum
+  shares-le [] = omega arith
+  shares-le (x ∷ xs) = omega (arith, div-mul-le-self (w x * cents) whole, shares-le xs)
+
+  -- a share above 0 falls short of its part by less than one whole
+  share-rest : (x : A) → 0 < whole → w x * cents + cond (ltb 0 (w x)) 1 0 ≤ w x * cents / whole * whole + cond (ltb 0 (w x)) 1 0 * whole
+  share-rest x p = by (ltb 0 (w x)) refl
+    where
+      by : (t : Bool) → ltb 0 (w x) ≡ t → w x * cents + cond t 1 0 ≤ w x * cents / whole * whole + cond t 1 0 * whole
+      by true e = omega (arith, lt-div-mul-add {a = w x * cents} p)
+      by false e = omega (arith, mul-le-mul-right cents (ltb-false 0 (w x) e))
+
+  shares-rest : 0 < whole → (xs : List A)
+      → sum w xs * cents + sum (λ x. cond (ltb 0 (w x)) 1 0) xs ≤ (sum (λ x. w x * cents / whole) xs + sum (λ x. cond (ltb 0 (w x)) 1 0) xs) * whole
+  unfolding sum
+  shares-rest p [] = omega arith
+  shares-rest p (x ∷ xs) = omega (arith, share-rest x p, shares-rest p xs)
+
+-- shares of cents by weight, over the sum of the weights
+module _ {A : Type 0} (w : A → ℕ) (cents : ℕ) (xs : List A) where
+  abbrev whole : ℕ
+  whole = sum w xs
+
+  none-shared : eqb whole 0 ≡ true → sum (λ x. share cents whole (w x)) xs ≡ 0
+  unfolding share
+  none-shared e = ap (λ (t : Bool). sum (λ x. cond t 0 (w x * cents / whole)) xs) e ∙ sum-zero xs
+
+  all-shared : eqb whole 0 ≡ false → sum (λ x. share cents whole (w x)) xs ≡ sum (λ x. w x * cents / whole) xs
+  unfolding share
+  all-shared e = ap (λ (t : Bool). sum (λ x. cond t 0 (w x * cents / whole)) xs) e
+
+  pub shared-le : sum (λ x. share cents whole (w x)) xs ≤ cents
+  shared-le = by (eqb whole 0) refl
+    where
+      by : (t : Bool) → eqb whole 0 ≡ t → sum (λ x. share cents whole (w x)) xs ≤ cents
+      by true e = omega (arith, none-shared e)
+      by false e =
+          let some : 0 < whole = omega (arith, eqb-false whole 0 e) in
+          let k : sum (λ x. share cents whole (w x)) xs * whole ≤ cents * whole = rw (all-shared e) (omega (arith, shares-le w cents whole xs)) in
+          le-of-mul-le-mul-right k some
+
+  -- what is not shared is less than the weights above 0
+  pub rest-lt : 0 < whole → cents < sum (λ x. share cents whole (w x)) xs + sum (λ x. cond (ltb 0 (w x)) 1 0) xs
+  rest-lt some =
+      let n = sum (λ x. cond (ltb 0 (w x)) 1 0) xs in
+      let above : 0 < n = counted w xs some in
+      let shared = all-shared (ne-eqb whole 0 (λ e. omega arith)) in
+      let h = rw (← shared) at (shares-rest w cents whole some xs) in
+      let k : cents * whole < (sum (λ x. share cents whole (w x)) xs + n) * whole = omega (arith, h) in
+      lt-of-mul-lt-mul-right whole k
+
+-- a share of no bonus is none
+share-zero : (cents total : ℕ) → share cents total 0 ≡ 0
+unfolding share
+share-zero cents total = by (eqb total 0)
+  where
+    by : (t : Bool) → cond t 0 (0 * cents / total) ≡ 0
+    by true = refl
+    by false = rw (zero-mul cents) (zero-div total)
+
+-- an interval's credits are at most its pool
+pub credits-le : (v : Assessed) → credits v ≤ pool v
+unfolding credits credit totalBonus
+credits-le v =
+    let given = sum-le (credit v) (λ c. share (pool v) (totalBonus v) (c .figures .bonus)) (v .rows) (λ c. if-le (c .row) (share (pool v) (totalBonus v) (c .figures .bonus))) in
+    omega (arith, given, shared-le (λ c. c .figures .bonus) (pool v) (v .rows))
+
+-- a row not considered has no bonus, and so no share to be denied
+credit-is-share : (v : Assessed) (t : Terms) (accounts : List Account) (q : Ratio) (r : Row)
+    → credit v (chargedRow t accounts q r) ≡ share (pool v) (totalBonus v) (chargedRow t accounts q r .figures .bonus)
+unfolding credit chargedRow rowFigures ifConsidered
+credit-is-share v t accounts q r = by (considered r)
+  where
+    by : (b : Bool) → cond b (share (pool v) (totalBonus v) (cond b (bonus r (expected q r)) 0)) 0 ≡ share (pool v) (totalBonus v) (cond b (bonus r (expected q r)) 0)
+    by true = refl
+    by false = sym (share-zero (pool v) (totalBonus v))
+
+module _ (t : Terms) (accounts : List Account) (carried : ℕ) (h : Header) (rs : List Row) where
+  abbrev v : Assessed
+  v = assessed t accounts carried h rs
+
+  -- the credits of an interval are the shares of its pool
+  credits-shared : credits v ≡ sum (λ c. share (pool v) (totalBonus v) (c .figures .bonus)) (v .rows)
+  unfolding credits assessed
+  credits-shared = sum-same (credit v) (λ c. share (pool v) (totalBonus v) (c .figures .bonus)) (v .rows)
+      (λ c m. let (r, _, e) = Memᴰ·of-map (chargedRow t accounts (ratioOf h rs)) rs m in
+      subst (λ c. credit v c ≡ share (pool v) (totalBonus v) (c .figures .bonus)) e (credit-is-share v t accounts (ratioOf h rs) r))
+
+  -- with bonus, fewer cents are carried on than there are rows with bonus
+  pub carried-lt : 0 < totalBonus v → carriedOn v < sum (λ c. cond (ltb 0 (c .figures .bonus)) 1 0) (v .rows)
+  unfolding carriedOn totalBonus
+  carried-lt some = omega (arith, credits-le v, credits-shared, rest-lt (λ c. c .figures .bonus) (pool v) (v .rows) some)

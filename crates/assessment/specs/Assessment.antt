@@ -1,0 +1,307 @@
+-- The assessment of one interval, rule by rule, over rows and accounts. Figures are kW but for limit, charge, pool, credit and carried, which are cents.
+use Prim.Native.Nat.{ℕ, _+_, _-_, _*_, _/_, min, max}
+use mathlib.Core.List.{List, [], _∷_, map}
+use mathlib.Core.Bool.{Bool, true, false, cond}
+use lib.IntN.{ℤ, pos, negsuc, natAbs, _+ℤ_, _-ℤ_}
+use lib.Dec.{ltb, eqb}
+use lib.Signed.{leZ, ltZ}
+use Rattle.words.specs.Lists.{sum}
+use Rattle.reading.specs.Block.{Terms}
+use Rattle.reading.specs.Interval.{Header, Point, Row, Kind, generation, demand, efficiency, responsive, energyOnly, noKind, kindOf}
+
+-- the ratio is printed in millionths
+abbrev pub wholeRatio : ℕ
+wholeRatio = 1000000
+
+-- the limit is 3 times Net CONE times days times kW, divided by this
+abbrev pub limitFactor : ℕ
+limitFactor = 3
+
+-- 2 from three halves, 1000 kW to the MW
+abbrev pub limitDivisor : ℕ
+limitDivisor = 2000
+
+-- a charge is shortfall times Net CONE times days, divided by this
+abbrev pub chargeDivisor : ℕ
+chargeDivisor = 360000
+
+-- a signed number, or 0 if it is negative
+unfoldable pub orZero : ℤ → ℕ
+orZero (pos n) = n
+orZero (negsuc n) = 0
+
+-- Actual: metered plus adjustment, or 0 if that is negative
+unfoldable pub actual : Row → ℕ
+actual r = orZero (r .metered +ℤ r .adjustment)
+
+-- the first of two lists that is not empty
+unfoldable pub orElse : List Point → List Point → List Point
+orElse [] later = later
+orElse (p ∷ ps) later = p ∷ ps
+
+-- the curve from the last point priced at or below the LMP on; empty if there is none
+unfoldable pub fromLastReached : ℤ → List Point → List Point
+fromLastReached lmp [] = []
+fromLastReached lmp (p ∷ ps) = orElse (fromLastReached lmp ps) (cond (leZ (p .price) lmp) (p ∷ ps) [])
+
+-- on the curve from that point on: its kW if it is the final one, else on towards the next in proportion to price, rounded down
+unfoldable pub alongCurve : ℤ → List Point → ℕ
+alongCurve lmp [] = 0
+alongCurve lmp (p ∷ []) = p .kw
+alongCurve lmp (p ∷ q ∷ qs) = p .kw + natAbs (lmp -ℤ p .price) * (q .kw - p .kw) / natAbs (q .price -ℤ p .price)
+
+-- the price of the last point of p and those after it
+unfoldable pub lastPrice : Point → List Point → ℤ
+lastPrice p [] = p .price
+lastPrice p (q ∷ qs) = lastPrice q qs
+
+-- the economic minimum if online, else 0
+unfoldable pub minimumOnline : Row → ℕ
+minimumOnline r = cond (eqb (r .online) 1) (r .minimum) 0
+
+-- Scheduled, by a curve: no points; an LMP below the first price; above the last; else along the curve, raised to the minimum if online and cut to the maximum
+unfoldable pub scheduledBy : List Point → Row → ℕ
+scheduledBy [] r = r .committed
+scheduledBy (p ∷ ps) r =
+    cond (ltZ (r .lmp) (p .price)) (minimumOnline r)
+    (cond (ltZ (lastPrice p ps) (r .lmp)) (r .maximum)
+    (min (max (alongCurve (r .lmp) (fromLastReached (r .lmp) (p ∷ ps))) (minimumOnline r)) (r .maximum)))
+
+-- Scheduled, by the row's own points
+unfoldable pub scheduled : Row → ℕ
+scheduled r = scheduledBy (r .curve) r
+
+-- the kW of the first of some points, 0 if there is none
+unfoldable pub firstKw : List Point → ℕ
+firstKw [] = 0
+firstKw (p ∷ ps) = p .kw
+
+-- Considered: every row but a PRD row whose last point priced at or below the LMP has 0 kW, or that has no such point
+unfoldable pub consideredAs : Kind → Row → Bool
+consideredAs generation r = true
+consideredAs demand r = true
+consideredAs efficiency r = true
+consideredAs responsive r = ltb 0 (firstKw (fromLastReached (r .lmp) (r .curve)))
+consideredAs energyOnly r = true
+consideredAs noKind r = false
+
+-- Considered, by the kind word
+unfoldable pub considered : Row → Bool
+considered r = consideredAs (kindOf (r .kind)) r
+
+-- a word of a row in the result: all eight are 0 if the row is not considered
+unfoldable pub ifConsidered : Row → ℕ → ℕ
+ifConsidered r word = cond (considered r) word 0
+
+-- the two sides of the balancing ratio
+pub record Ratio : Type 0 where
+  pub numerator : ℕ
+  pub denominator : ℕ
+
+-- a whole times numerator divided by denominator, rounded down once, never above the whole, and 0 if the denominator is 0
+unfoldable pub portion : Ratio → ℕ → ℕ
+portion q whole = cond (eqb (q .denominator) 0) 0 (min (whole * q .numerator / q .denominator) whole)
+
+-- Expected: by the ratio for kind 0, the committed kW for kinds 1, 2 and 3, 0 for kind 4
+unfoldable pub expectedAs : Kind → Ratio → Row → ℕ
+expectedAs generation q r = portion q (r .committed)
+expectedAs demand q r = r .committed
+expectedAs efficiency q r = r .committed
+expectedAs responsive q r = r .committed
+expectedAs energyOnly q r = 0
+expectedAs noKind q r = 0
+
+-- Expected, by the kind word
+unfoldable pub expected : Ratio → Row → ℕ
+expected q r = expectedAs (kindOf (r .kind)) q r
+
+-- the actual that a bonus is taken from: for kinds 0 and 4 first cut to the scheduled kW
+unfoldable pub bonusActualAs : Kind → Row → ℕ
+bonusActualAs generation r = min (actual r) (scheduled r)
+bonusActualAs demand r = actual r
+bonusActualAs efficiency r = actual r
+bonusActualAs responsive r = actual r
+bonusActualAs energyOnly r = min (actual r) (scheduled r)
+bonusActualAs noKind r = 0
+
+-- Bonus, of a row of which so many kW are expected: actual minus expected where positive
+unfoldable pub bonus : Row → ℕ → ℕ
+bonus r expect = bonusActualAs (kindOf (r .kind)) r - expect
+
+-- what a row adds to the numerator: its actual for kinds 0 and 4, its bonus for kinds 1 and 3, of which the committed kW are expected
+unfoldable pub numeratorShareAs : Kind → Row → ℕ
+numeratorShareAs generation r = actual r
+numeratorShareAs demand r = bonus r (r .committed)
+numeratorShareAs efficiency r = 0
+numeratorShareAs responsive r = bonus r (r .committed)
+numeratorShareAs energyOnly r = actual r
+numeratorShareAs noKind r = 0
+
+-- the same by the kind word; a PRD row not considered adds nothing
+unfoldable pub numeratorShare : Row → ℕ
+numeratorShare r = ifConsidered r (numeratorShareAs (kindOf (r .kind)) r)
+
+-- what the net imports add: only when region-wide, if positive
+unfoldable pub importShare : Header → ℕ
+importShare h = cond (eqb (h .regionWide) 1) (orZero (h .imports)) 0
+
+-- Numerator
+unfoldable pub numerator : Header → List Row → ℕ
+numerator h rs = sum numeratorShare rs + importShare h
+
+-- what a row adds to the denominator: the committed kW of kind 0
+unfoldable pub denominatorShareAs : Kind → Row → ℕ
+denominatorShareAs generation r = r .committed
+denominatorShareAs demand r = 0
+denominatorShareAs efficiency r = 0
+denominatorShareAs responsive r = 0
+denominatorShareAs energyOnly r = 0
+denominatorShareAs noKind r = 0
+
+-- Denominator
+unfoldable pub denominator : List Row → ℕ
+denominator rs = sum (λ r. denominatorShareAs (kindOf (r .kind)) r) rs
+
+-- numerator over denominator
+unfoldable pub ratioOf : Header → List Row → Ratio
+ratioOf h rs = record { numerator = numerator h rs; denominator = denominator rs }
+
+-- the printed ratio, in millionths
+unfoldable pub printedRatio : Ratio → ℕ
+printedRatio q = portion q wholeRatio
+
+-- Outage: word 6 for kinds 0 and 4, else 0
+unfoldable pub outageAs : Kind → Row → ℕ
+outageAs generation r = r .planned
+outageAs demand r = 0
+outageAs efficiency r = 0
+outageAs responsive r = 0
+outageAs energyOnly r = r .planned
+outageAs noKind r = 0
+
+-- Outage, by the kind word
+unfoldable pub outage : Row → ℕ
+outage r = outageAs (kindOf (r .kind)) r
+
+-- the least of emergency maximum, expected, and owned minus both outages (at least 0), minus the greater of scheduled and actual; 0 if negative
+unfoldable pub economicRule : Row → ℕ → ℕ
+economicRule r expect = min (r .maximum) (min expect (r .owned - (r .planned + r .forced))) - max (scheduled r) (actual r)
+
+-- Economic, of a row of which so many kW are expected: by that rule for kinds 0 and 4, else 0
+unfoldable pub economicAs : Kind → Row → ℕ → ℕ
+economicAs generation r expect = economicRule r expect
+economicAs demand r expect = 0
+economicAs efficiency r expect = 0
+economicAs responsive r expect = 0
+economicAs energyOnly r expect = economicRule r expect
+economicAs noKind r expect = 0
+
+-- Economic, by the kind word
+unfoldable pub economic : Row → ℕ → ℕ
+economic r expect = economicAs (kindOf (r .kind)) r expect
+
+-- Shortfall, of a row of which so many kW are expected: expected minus actual, outage and economic, where positive
+unfoldable pub shortfall : Row → ℕ → ℕ
+shortfall r expect = expect - (actual r + outage r + economic r expect)
+
+-- the first six words of a row in the result
+pub record RowFigures : Type 0 where
+  pub expected : ℕ
+  pub actual : ℕ
+  pub outage : ℕ
+  pub economic : ℕ
+  pub shortfall : ℕ
+  pub bonus : ℕ
+
+-- a row's figures at a ratio
+unfoldable pub rowFigures : Ratio → Row → RowFigures
+rowFigures q r =
+    let expect = expected q r in
+    record {
+      expected = ifConsidered r expect;
+      actual = ifConsidered r (actual r);
+      outage = ifConsidered r (outage r);
+      economic = ifConsidered r (economic r expect);
+      shortfall = ifConsidered r (shortfall r expect);
+      bonus = ifConsidered r (bonus r expect);
+    }
+
+-- an account: id, largest commitment so far, charged, credited
+pub record Account : Type 0 where
+  pub id : ℕ
+  pub largest : ℕ
+  pub charged : ℕ
+  pub credited : ℕ
+
+-- the account with an id; one with nothing in it where there is none, which ground 12 rules out
+unfoldable pub accountOf : ℕ → List Account → Account
+accountOf i [] = record { id = i; largest = 0; charged = 0; credited = 0 }
+accountOf i (a ∷ rest) = cond (eqb (a .id) i) a (accountOf i rest)
+
+-- an account whose largest commitment a row has raised to its committed kW, if that is larger
+unfoldable pub raised : Row → Account → Account
+raised r a = record { id = a .id; largest = max (a .largest) (r .committed); charged = a .charged; credited = a .credited }
+
+-- Limit, for a largest commitment of so many kW, rounded down
+unfoldable pub limit : Terms → ℕ → ℕ
+limit t kw = limitFactor * t .netCone * t .days * kw / limitDivisor
+
+-- the charge for a shortfall before the limit cuts it, rounded down
+unfoldable pub fullCharge : Terms → ℕ → ℕ
+fullCharge t short = short * t .netCone * t .days / chargeDivisor
+
+-- Charge, for a shortfall, to an account that the row has raised: cut to what is left under the limit
+unfoldable pub charge : Terms → Account → ℕ → ℕ
+charge t a short = min (fullCharge t short) (limit t (a .largest) - a .charged)
+
+-- a row with its figures and its charge
+pub record ChargedRow : Type 0 where
+  pub row : Row
+  pub figures : RowFigures
+  pub charge : ℕ
+
+-- a row, with its charge to its account as it stood before the interval
+unfoldable pub chargedRow : Terms → List Account → Ratio → Row → ChargedRow
+chargedRow t accounts q r =
+    let figures = rowFigures q r in
+    record { row = r; figures = figures; charge = ifConsidered r (charge t (raised r (accountOf (r .id) accounts)) (figures .shortfall)) }
+
+-- an interval: the ratio, the charged rows in file order, and the cents carried into it
+pub record Assessed : Type 0 where
+  pub ratio : Ratio
+  pub rows : List ChargedRow
+  pub carried : ℕ
+
+-- the interval that rows make, on terms, accounts and cents carried before it
+unfoldable pub assessed : Terms → List Account → ℕ → Header → List Row → Assessed
+assessed t accounts carried h rs =
+    let q = ratioOf h rs in
+    record { ratio = q; rows = map (chargedRow t accounts q) rs; carried = carried }
+
+-- an interval's charges and total bonus are the sums over its own rows
+unfoldable pub charges : Assessed → ℕ
+charges v = sum (λ c. c .charge) (v .rows)
+
+-- total bonus
+unfoldable pub totalBonus : Assessed → ℕ
+totalBonus v = sum (λ c. c .figures .bonus) (v .rows)
+
+-- Pool: the cents carried plus the charges
+unfoldable pub pool : Assessed → ℕ
+pool v = v .carried + charges v
+
+-- bonus times pool divided by total bonus, rounded down; with no bonus nothing is shared
+unfoldable pub share : ℕ → ℕ → ℕ → ℕ
+share cents total kw = cond (eqb total 0) 0 (kw * cents / total)
+
+-- Credit, of one row
+unfoldable pub credit : Assessed → ChargedRow → ℕ
+credit v c = ifConsidered (c .row) (share (pool v) (totalBonus v) (c .figures .bonus))
+
+-- an interval's credits are the sum over its own rows
+unfoldable pub credits : Assessed → ℕ
+credits v = sum (credit v) (v .rows)
+
+-- Carried: the rest of the pool, which is all of it with no bonus
+unfoldable pub carriedOn : Assessed → ℕ
+carriedOn v = pool v - credits v

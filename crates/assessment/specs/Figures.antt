@@ -1,0 +1,194 @@
+-- Worked figures of the rules: what the definitions give, beside what it must be.
+use Prim.Native.Nat.{ℕ}
+use mathlib.Core.List.{List, [], _∷_}
+use lib.IntN.{ℤ, pos, negsuc}
+use Rattle.words.specs.Figures.{Figure, _gives_, AllAsStated, test}
+use Rattle.reading.specs.Block.{Terms}
+use Rattle.reading.specs.Interval.{Header, Point, Row}
+use Rattle.assessment.specs.Assessment.{Ratio, RowFigures, Account, ChargedRow, Assessed, fromLastReached, firstKw, scheduled, considered, expected, bonus, numeratorShare, numerator, ratioOf, printedRatio, rowFigures, raised, limit, charge, chargedRow, pool, credit, carriedOn}
+
+-- a point
+abbrev pub at : ℤ → ℕ → Point
+at price kw = record { price = price; kw = kw }
+
+-- a row of id 1, without adjustment: kind, committed, owned, metered, planned, forced, maximum, minimum, online, LMP and curve
+abbrev pub row : ℕ → ℕ → ℕ → ℤ → ℕ → ℕ → ℕ → ℕ → ℕ → ℤ → List Point → Row
+row kind committed owned metered planned forced maximum minimum online lmp curve = record {
+  id = 1;
+  kind = kind;
+  committed = committed;
+  owned = owned;
+  metered = metered;
+  adjustment = pos 0;
+  planned = planned;
+  forced = forced;
+  maximum = maximum;
+  minimum = minimum;
+  online = online;
+  lmp = lmp;
+  firstPoint = 0;
+  pointCount = 0;
+  curve = curve;
+}
+
+-- curve A
+unfoldable pub curveA : List Point
+curveA = at (pos 1000) 20000 ∷ at (pos 5000) 100000 ∷ []
+
+-- a generator on curve A, with its limits
+unfoldable pub onA : ℕ → ℤ → Row
+onA online lmp = row 0 0 0 (pos 0) 0 0 110000 20000 online lmp curveA
+
+-- PRD with points (500, 0) and (2000, 3000)
+unfoldable pub prd : ℤ → Row
+prd lmp = row 3 3000 0 (pos 0) 0 0 0 0 0 lmp (at (pos 500) 0 ∷ at (pos 2000) 3000 ∷ [])
+
+-- a demand resource with a bonus, charged nothing
+unfoldable pub withBonus : ℕ → ChargedRow
+withBonus kw = record {
+  row = row 1 0 0 (pos kw) 0 0 0 0 0 (pos 0) [];
+  figures = record { expected = 0; actual = kw; outage = 0; economic = 0; shortfall = 0; bonus = kw };
+  charge = 0;
+}
+
+-- a pool of 557628 cents over bonuses of 30000 and 10001 kW
+unfoldable pub shared : Assessed
+shared = record { ratio = record { numerator = 0; denominator = 0 }; rows = withBonus 30000 ∷ withBonus 10001 ∷ []; carried = 557628 }
+
+-- an account with a largest commitment and cents charged
+abbrev pub account : ℕ → ℕ → Account
+account largest charged = record { id = 1; largest = largest; charged = charged; credited = 0 }
+
+-- a year of 365 days at a Net CONE
+abbrev pub terms : ℕ → Terms
+terms netCone = record { netCone = netCone; days = 365 }
+
+-- a ratio
+abbrev pub over : ℕ → ℕ → Ratio
+over n d = record { numerator = n; denominator = d }
+
+-- the figures that document 01 marks (P), in its order
+unfoldable pub provedFigures : List Figure
+provedFigures =
+    scheduled (onA 1 (pos 999)) gives 20000
+    ∷ scheduled (onA 1 (pos 3001)) gives 60020
+    ∷ scheduled (onA 1 (pos 5000)) gives 100000
+    ∷ scheduled (onA 1 (pos 5001)) gives 110000
+    ∷ scheduled (onA 0 (pos 999)) gives 0
+    ∷ scheduled (row 0 0 0 (pos 0) 0 0 10 0 1 (negsuc 298) (at (negsuc 299) 0 ∷ at (negsuc 292) 10 ∷ [])) gives 1
+    ∷ test (considered (prd (pos 1999))) gives 0
+    ∷ test (considered (prd (pos 2000))) gives 1
+    ∷ charge (terms 1) (account 4000000 0) 986 gives 0
+    ∷ charge (terms 1) (account 4000000 0) 987 gives 1
+    ∷ limit (terms 30000) 1 gives 16425
+    ∷ charge (terms 30000) (account 1 16400) 1 gives 25
+    ∷ pool shared gives 557628
+    ∷ credit shared (withBonus 30000) gives 418210
+    ∷ credit shared (withBonus 10001) gives 139417
+    ∷ carriedOn shared gives 1
+    ∷ expected (over 130001 150000) (row 0 100000 0 (pos 0) 0 0 0 0 0 (pos 0) []) gives 86667
+    ∷ []
+
+-- the claim over all of them
+unfoldable pub ProvedFigures : Type 0
+ProvedFigures = AllAsStated provedFigures
+
+-- row 11 of document 01's listing, with the words that the assessment reads
+unfoldable pub row11 : Row
+row11 = row 0 100000 110000 (pos 60000) 10000 0 110000 20000 1 (pos 3000) curveA
+
+-- row 12
+unfoldable pub row12 : Row
+row12 = row 0 50000 60000 (pos 25000) 0 35000 25000 10000 1 (pos 6001) (at (pos 1000) 10000 ∷ at (pos 6000) 50000 ∷ [])
+
+-- row 13
+unfoldable pub row13 : Row
+row13 = row 4 0 40000 (pos 35000) 0 0 40000 0 1 (pos 3000) (at (pos 0) 0 ∷ at (pos 4000) 40000 ∷ [])
+
+-- row 14
+unfoldable pub row14 : Row
+row14 = row 1 5000 0 (pos 15001) 0 0 0 0 0 (pos 0) []
+
+-- a header with net imports, region-wide or not
+unfoldable pub importing : ℕ → ℤ → Header
+importing regionWide imports = record {
+  format = 1;
+  interval = 1000;
+  terms = terms 30000;
+  regionWide = regionWide;
+  imports = imports;
+  rowCount = 4;
+  rowsOffset = 40;
+  pointCount = 0;
+  pointsOffset = 40;
+}
+
+-- the four of them
+unfoldable pub listed : List Row
+listed = row11 ∷ row12 ∷ row13 ∷ row14 ∷ []
+
+-- committed 100000 at ratio 1, owned 110000, forced 30000, maximum 110000, scheduled 60000, actual 50000
+unfoldable pub withForced : RowFigures
+withForced = rowFigures (over 1 1) (row 0 100000 110000 (pos 50000) 0 30000 110000 20000 1 (pos 3000) curveA)
+
+-- a PRD row of 3000 kW that is not considered, with a shortfall and a credit to deny, and its charge at 30000 cents
+unfoldable pub denied : ChargedRow
+denied = chargedRow (terms 30000) (account 3000 0 ∷ []) (over 1 1) (row 3 3000 0 (pos 1000) 0 0 0 0 0 (pos 499) (at (pos 500) 5 ∷ []))
+
+-- figures that tell each rule from the wrong one nearest to it
+unfoldable pub workedFigures : List Figure
+workedFigures =
+    -- the ratio is not rounded before it is multiplied (3466692 by way of millionths)
+    expected (over 130001 150000) (row 0 4000000 0 (pos 0) 0 0 0 0 0 (pos 0) []) gives 3466693
+    -- expected is never above committed, and 0 if the denominator is 0
+    ∷ expected (over 3 2) (row 0 100000 0 (pos 0) 0 0 0 0 0 (pos 0) []) gives 100000
+    ∷ expected (over 3 0) (row 0 100000 0 (pos 0) 0 0 0 0 0 (pos 0) []) gives 0
+    ∷ printedRatio (over 3 2) gives 1000000
+    ∷ printedRatio (over 3 0) gives 0
+    -- forced outage is not excused by the economic rule (40000 if it were), and is in no outage
+    ∷ withForced .economic gives 20000
+    ∷ withForced .outage gives 0
+    ∷ withForced .shortfall gives 30000
+    -- imports count only when region-wide and positive
+    ∷ printedRatio (ratioOf (importing 0 (pos 19999)) listed) gives 866673
+    ∷ printedRatio (ratioOf (importing 1 (pos 19999)) listed) gives 1000000
+    ∷ numerator (importing 1 (pos 9)) listed gives 130010
+    ∷ numerator (importing 1 (negsuc 9)) listed gives 130001
+    -- the numerator takes the actual of kinds 0 and 4 uncut, the bonus cuts it
+    ∷ numeratorShare (row 0 50000 0 (pos 70000) 0 0 110000 20000 1 (pos 3000) curveA) gives 70000
+    ∷ numeratorShare (row 4 0 0 (pos 70000) 0 0 110000 20000 1 (pos 3000) curveA) gives 70000
+    ∷ bonus (row 0 50000 0 (pos 70000) 0 0 110000 20000 1 (pos 3000) curveA) 50000 gives 10000
+    ∷ bonus (row 4 0 0 (pos 70000) 0 0 110000 20000 1 (pos 3000) curveA) 0 gives 60000
+    -- kind 2 has a bonus, and no share of the numerator
+    ∷ bonus (row 2 1000 0 (pos 5000) 0 0 0 0 0 (pos 0) []) 1000 gives 4000
+    ∷ numeratorShare (row 2 1000 0 (pos 5000) 0 0 0 0 0 (pos 0) []) gives 0
+    -- kinds 1 and 3 add their bonus, not their actual; a PRD row not considered adds none
+    ∷ numeratorShare row14 gives 10001
+    ∷ numeratorShare (row 3 3000 0 (pos 5000) 0 0 0 0 0 (pos 2000) (at (pos 2000) 1 ∷ [])) gives 2000
+    ∷ numeratorShare (row 3 3000 0 (pos 5000) 0 0 0 0 0 (pos 1999) (at (pos 2000) 1 ∷ [])) gives 0
+    -- offline, a row on its curve is not set to 0; it is not raised to its minimum, but cut to its maximum
+    ∷ scheduled (onA 0 (pos 3001)) gives 60020
+    ∷ scheduled (row 0 0 0 (pos 0) 0 0 110000 70000 0 (pos 3001) curveA) gives 60020
+    ∷ scheduled (row 0 0 0 (pos 0) 0 0 110000 70000 1 (pos 3001) curveA) gives 70000
+    ∷ scheduled (row 0 0 0 (pos 0) 0 0 50000 0 0 (pos 3001) curveA) gives 50000
+    -- with no points the committed kW, neither raised nor cut
+    ∷ scheduled (row 0 7 0 (pos 0) 0 0 5 0 1 (pos 0) []) gives 7
+    -- of equal prices the last; and the last point at or below the LMP wherever it stands
+    ∷ scheduled (row 0 0 0 (pos 0) 0 0 90 0 0 (pos 10) (at (pos 10) 1 ∷ at (pos 10) 3 ∷ at (pos 20) 13 ∷ [])) gives 3
+    ∷ firstKw (fromLastReached (pos 25) (at (pos 10) 1 ∷ at (pos 30) 2 ∷ at (pos 20) 3 ∷ at (pos 40) 4 ∷ [])) gives 3
+    -- PRD without points is never considered
+    ∷ test (considered (row 3 1 0 (pos 0) 0 0 0 0 0 (pos 1000000) [])) gives 0
+    -- a PRD row not considered: words that are 0, and a commitment raised all the same
+    ∷ denied .figures .expected gives 0
+    ∷ denied .figures .actual gives 0
+    ∷ denied .figures .shortfall gives 0
+    ∷ denied .charge gives 0
+    ∷ raised (prd (pos 1999)) (account 2000 0) .largest gives 3000
+    -- the limit goes by the largest commitment so far, today's or an earlier one
+    ∷ charge (terms 30000) (raised (row 0 0 0 (pos 0) 0 0 0 0 0 (pos 0) []) (account 1 16400)) 1 gives 25
+    ∷ charge (terms 30000) (raised (row 0 2 0 (pos 0) 0 0 0 0 0 (pos 0) []) (account 1 16400)) 1 gives 30
+    ∷ []
+
+-- the claim over all of them
+unfoldable pub WorkedFigures : Type 0
+WorkedFigures = AllAsStated workedFigures

@@ -1,0 +1,2 @@
+pub mod Assessment
+pub mod Figures

@@ -1,0 +1,13 @@
+pub mod Computing
+pub mod Listing
+pub mod Sound
+pub mod LedgerBack
+pub mod Given
+pub mod Posting
+pub mod Fits
+pub mod Totals
+pub mod Limits
+pub mod Calls
+pub mod Books
+pub mod Step
+pub mod Claims

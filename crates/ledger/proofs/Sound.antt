@@ -1,0 +1,162 @@
+-- What is known of a block, a ledger, a file and the buffers where no ground applies.
+use Prim.Native.Nat.{ℕ, _+_, _*_, _≤_}
+use mathlib.Core.Path.{_≡_, refl, _∙_, sym}
+use mathlib.Core.List.{List, map, List·Memᴰ}
+use mathlib.Core.Bool.{Bool, true, false, cond, not}
+use native.Mathlib.Omega.{arith}
+use lib.ListN.{length, drop}
+use lib.Dec.{eqb}
+use borrow.Author.Tests.{eqb-true}
+use Rattle.words.specs.Lists.{sum, any, rises}
+use Rattle.words.specs.Grounds.{answered, outside}
+use Rattle.words.proofs.Tests.{facts, not-outside}
+use Rattle.words.proofs.Lists.{none-passes}
+use Rattle.words.proofs.Words.{length-entries}
+use Rattle.words.proofs.Grounds.{none-applies}
+use Rattle.reading.specs.Block.{mostIds, Terms, blockOf, termsOutside, idsMisplaced, idsOutOfOrder}
+use Rattle.reading.specs.Interval.{mostKilowatts, mostRows, Row, headerOf, rowsOf, headerOutside, tablesMisplaced, rowOutside}
+use Rattle.reading.proofs.Bounds.{ids-few, HeaderIn, header-in, rows-few, length-rows, RowIn, row-in}
+use Rattle.assessment.specs.Assessment.{Account, limit, pool}
+use Rattle.ledger.specs.Ledger.{ledgerHeaderBytes, accountBytes, mostCents, mostCredited, Ledger, ledgerBytes, accountAt, accountCount, ledgerOf, idsIn, accountOutside, doesNotClose, notALedger}
+use Rattle.ledger.specs.Opening.{OpeningAnswer, ledgerTooShort, openingGrounds, opening}
+use Rattle.ledger.specs.Settling.{resultHeaderBytes, resultRowBytes, assessedFile, otherTerms, rowIdsUnknown, resultTooShort, poolTooLarge, settlingGrounds, SettlingAnswer, settling}
+
+-- an answer of 0 is the answer of the list of grounds
+ground-zero : {A : Type 0} (g : ℕ) (ground : A → ℕ) (taken refused : A) → ground refused ≡ g → ground (cond (eqb g 0) taken refused) ≡ 0 → g ≡ 0
+ground-zero g ground taken refused same e = by (eqb g 0) refl e
+  where
+    by : (t : Bool) → eqb g 0 ≡ t → ground (cond t taken refused) ≡ 0 → g ≡ 0
+    by true q z = eqb-true g 0 q
+    by false q z = sym same ∙ z
+
+-- a block and a ledger buffer that opening accepts
+pub record BlockAccepted (block ledger : List ℕ) : Type 0 where
+  pub terms : termsOutside (blockOf block .terms) ≡ false
+  pub some : 1 ≤ blockOf block .idCount
+  pub few : blockOf block .idCount ≤ mostIds
+  pub ids : idsOutOfOrder (blockOf block .ids) ≡ false
+  pub room : ledgerBytes (blockOf block .idCount) ≤ length ledger
+
+pub opening-none : (block ledger : List ℕ) → opening block ledger .ground ≡ 0 → answered (openingGrounds block ledger) ≡ 0
+unfolding opening
+opening-none block ledger e = ground-zero {A = OpeningAnswer} (answered (openingGrounds block ledger)) (λ a. a .ground) _ _ refl e
+
+pub block-accepted : (block ledger : List ℕ) → opening block ledger .ground ≡ 0 → BlockAccepted block ledger
+unfolding openingGrounds any ledgerTooShort
+block-accepted block ledger e =
+    let none = none-applies (openingGrounds block ledger) refl (opening-none block ledger e) in
+    let placed : idsMisplaced block ≡ false = search facts depth 12 in
+    record {
+      terms = search facts depth 12;
+      some = ids-few block placed .0;
+      few = ids-few block placed .1;
+      ids = search facts depth 12;
+      room = search facts depth 12;
+    }
+
+-- an account that ground 6 does not refuse
+pub record AccountIn (t : Terms) (a : Account) : Type 0 where
+  pub largest : a .largest ≤ mostKilowatts
+  pub charged : a .charged ≤ limit t (a .largest)
+  pub credited : a .credited ≤ mostCredited
+
+account-in : (t : Terms) (a : Account) → accountOutside t a ≡ false → AccountIn t a
+unfolding accountOutside
+account-in t a e = record { largest = search facts; charged = search facts; credited = search facts }
+
+-- a ledger that ground 6 does not refuse
+pub record LedgerIn (l : Ledger) : Type 0 where
+  pub terms : termsOutside (l .terms) ≡ false
+  pub ids : idsOutOfOrder (idsIn l) ≡ false
+  pub some : 1 ≤ length (l .accounts)
+  pub few : length (l .accounts) ≤ mostIds
+  pub accounts : (a : Account) → List·Memᴰ a (l .accounts) → AccountIn (l .terms) a
+  pub closes : sum (λ a. a .charged) (l .accounts) ≡ sum (λ a. a .credited) (l .accounts) + l .carried
+
+pub length-accounts : (b : List ℕ) → length (ledgerOf b .accounts) ≡ accountCount b
+unfolding ledgerOf
+length-accounts b = length-entries accountBytes accountAt (accountCount b) (drop ledgerHeaderBytes b)
+
+closes-of : (l : Ledger) → doesNotClose l ≡ false → sum (λ a. a .charged) (l .accounts) ≡ sum (λ a. a .credited) (l .accounts) + l .carried
+unfolding doesNotClose
+closes-of l e = search facts
+
+pub ledger-in : (b : List ℕ) → notALedger b ≡ false → LedgerIn (ledgerOf b)
+unfolding notALedger
+ledger-in b e =
+    let range : outside 1 mostIds (accountCount b) ≡ false = search facts depth 20 in
+    let number = not-outside 1 mostIds (accountCount b) range in
+    let n = length-accounts b in
+    let all : any (accountOutside (ledgerOf b .terms)) (ledgerOf b .accounts) ≡ false = search facts depth 20 in
+    let close : doesNotClose (ledgerOf b) ≡ false = search facts depth 20 in
+    record {
+      terms = search facts depth 20;
+      ids = search facts depth 20;
+      some = omega (arith, n, number .0);
+      few = omega (arith, n, number .1);
+      accounts = λ a m. account-in (ledgerOf b .terms) a (none-passes (accountOutside (ledgerOf b .terms)) m all);
+      closes = closes-of (ledgerOf b) close;
+    }
+
+pub ledger-room : (b : List ℕ) → notALedger b ≡ false → ledgerBytes (length (ledgerOf b .accounts)) ≤ length b
+unfolding notALedger
+ledger-room b e =
+    let room : ledgerBytes (accountCount b) ≤ length b = search facts depth 20 in
+    rw (length-accounts b) room
+
+-- a ledger, a file and a result buffer that settling accepts
+pub record Accepted (ledger file result : List ℕ) : Type 0 where
+  pub ledger-holds : notALedger ledger ≡ false
+  pub ledger-is : LedgerIn (ledgerOf ledger)
+  pub header : HeaderIn (headerOf file)
+  pub days : headerOf file .terms .days ≡ ledgerOf ledger .terms .days
+  pub rows-few : length (rowsOf file) ≤ mostRows
+  pub ids-rise : rises (map (λ r. r .id) (rowsOf file)) ≡ true
+  pub ids-known : (r : Row) → List·Memᴰ r (rowsOf file) → any (λ id. eqb id (r .id)) (idsIn (ledgerOf ledger)) ≡ true
+  pub rows : (r : Row) → List·Memᴰ r (rowsOf file) → RowIn r
+  pub room : resultHeaderBytes + resultRowBytes * length (rowsOf file) ≤ length result
+  pub pool : pool (assessedFile ledger file) ≤ mostCents
+
+same-days : (ledger file : List ℕ) → otherTerms ledger file ≡ false → headerOf file .terms .days ≡ ledgerOf ledger .terms .days
+unfolding otherTerms
+same-days ledger file e = search facts
+
+rows-rise : (l : Ledger) (rs : List Row) → rowIdsUnknown l rs ≡ false → rises (map (λ r. r .id) rs) ≡ true
+unfolding rowIdsUnknown
+rows-rise l rs e = search facts
+
+rows-known : (l : Ledger) (rs : List Row) → rowIdsUnknown l rs ≡ false → (r : Row) → List·Memᴰ r rs → any (λ id. eqb id (r .id)) (idsIn l) ≡ true
+unfolding rowIdsUnknown
+rows-known l rs e r m =
+    let all : any (λ r. not (any (λ id. eqb id (r .id)) (idsIn l))) rs ≡ false = search facts in
+    let one = none-passes (λ r. not (any (λ id. eqb id (r .id)) (idsIn l))) m all in
+    search facts
+
+pub settling-none : (ledger file result : List ℕ) → settling ledger file result .ground ≡ 0 → answered (settlingGrounds ledger file result) ≡ 0
+unfolding settling
+settling-none ledger file result e = ground-zero {A = SettlingAnswer} (answered (settlingGrounds ledger file result)) (λ a. a .ground) _ _ refl e
+
+pub accepted : (ledger file result : List ℕ) → settling ledger file result .ground ≡ 0 → Accepted ledger file result
+unfolding settlingGrounds any resultTooShort poolTooLarge
+accepted ledger file result e =
+    let none = none-applies (settlingGrounds ledger file result) refl (settling-none ledger file result e) in
+    let g6 : notALedger ledger ≡ false = search facts depth 14 in
+    let g8 : otherTerms ledger file ≡ false = search facts depth 14 in
+    let g9 : headerOutside (headerOf file) ≡ false = search facts depth 14 in
+    let g11 : tablesMisplaced file ≡ false = search facts depth 14 in
+    let g12 : rowIdsUnknown (ledgerOf ledger) (rowsOf file) ≡ false = search facts depth 14 in
+    let g13 : any rowOutside (rowsOf file) ≡ false = search facts depth 14 in
+    let g15 : resultHeaderBytes + resultRowBytes * headerOf file .rowCount ≤ length result = search facts depth 14 in
+    let n = length-rows file in
+    record {
+      ledger-holds = g6;
+      ledger-is = ledger-in ledger g6;
+      header = header-in (headerOf file) g9;
+      days = same-days ledger file g8;
+      rows-few = omega (arith, n, rows-few file g11);
+      ids-rise = rows-rise (ledgerOf ledger) (rowsOf file) g12;
+      ids-known = rows-known (ledgerOf ledger) (rowsOf file) g12;
+      rows = λ r m. row-in r (none-passes rowOutside m g13);
+      room = omega (arith, n, g15);
+      pool = search facts depth 14;
+    }

@@ -1,0 +1,101 @@
+-- The ledger: its layout, and ground 6.
+use Prim.Native.Nat.{ℕ, _+_, _*_}
+use mathlib.Core.List.{List, [], _∷_, map}
+use mathlib.Core.Bool.{Bool, not, _||_}
+use lib.ListN.{length, drop}
+use lib.Dec.{ltb, eqb}
+use Rattle.words.specs.Lists.{sum, any}
+use Rattle.words.specs.Words.{word64, entries}
+use Rattle.words.specs.Grounds.{outside}
+use Rattle.reading.specs.Block.{Terms, mostIds, termsOutside, idsOutOfOrder}
+use Rattle.reading.specs.Interval.{intervalsPerDay, mostKilowatts}
+use Rattle.assessment.specs.Assessment.{Account, limit}
+
+-- bytes of a ledger before its accounts: 8 words of 8 bytes
+abbrev pub ledgerHeaderBytes : ℕ
+ledgerHeaderBytes = 64
+
+-- an account: 4 words of 8 bytes
+abbrev pub accountBytes : ℕ
+accountBytes = 32
+
+-- word 0
+abbrev pub ledgerFormat : ℕ
+ledgerFormat = 1
+
+-- word 6: the word offset of the accounts
+abbrev pub accountsOffset : ℕ
+accountsOffset = 8
+
+-- carried cents, and so a pool
+abbrev pub mostCents : ℕ
+mostCents = 1099511627775
+
+-- a credited sum
+abbrev pub mostCredited : ℕ
+mostCredited = 224870400000000
+
+-- a ledger: its terms, the earliest interval still accepted, the carried cents, and the accounts
+pub record Ledger : Type 0 where
+  pub terms : Terms
+  pub earliest : ℕ
+  pub carried : ℕ
+  pub accounts : List Account
+
+-- bytes of a ledger with so many accounts
+unfoldable pub ledgerBytes : ℕ → ℕ
+ledgerBytes n = ledgerHeaderBytes + accountBytes * n
+
+-- the account at the front of b
+unfoldable pub accountAt : List ℕ → Account
+accountAt b = record { id = word64 b 0; largest = word64 b 1; charged = word64 b 2; credited = word64 b 3 }
+
+-- word 5: the number of accounts
+unfoldable pub accountCount : List ℕ → ℕ
+accountCount b = word64 b 5
+
+-- the ledger that a buffer holds
+unfoldable pub ledgerOf : List ℕ → Ledger
+ledgerOf b = record {
+  terms = record { netCone = word64 b 1; days = word64 b 2 };
+  earliest = word64 b 3;
+  carried = word64 b 4;
+  accounts = entries accountBytes accountAt (accountCount b) (drop ledgerHeaderBytes b);
+}
+
+-- the words of accounts
+unfoldable pub accountWords : List Account → List ℕ
+accountWords [] = []
+accountWords (a ∷ rest) = a .id ∷ a .largest ∷ a .charged ∷ a .credited ∷ accountWords rest
+
+-- the words of a ledger: the header's eight, then each account's four
+unfoldable pub ledgerWords : Ledger → List ℕ
+ledgerWords l =
+    ledgerFormat ∷ l .terms .netCone ∷ l .terms .days ∷ l .earliest ∷ l .carried ∷ length (l .accounts) ∷ accountsOffset ∷ 0
+    ∷ accountWords (l .accounts)
+
+-- the ids of a ledger
+unfoldable pub idsIn : Ledger → List ℕ
+idsIn l = map (λ a. a .id) (l .accounts)
+
+-- word 0, 6 or 7 is not as laid out
+unfoldable pub notLaidOut : List ℕ → Bool
+notLaidOut b = not (eqb (word64 b 0) ledgerFormat) || not (eqb (word64 b 6) accountsOffset) || not (eqb (word64 b 7) 0)
+
+-- an account's commitment, charged sum or credited sum is too large
+unfoldable pub accountOutside : Terms → Account → Bool
+accountOutside t a = ltb mostKilowatts (a .largest) || ltb (limit t (a .largest)) (a .charged) || ltb mostCredited (a .credited)
+
+-- charged sums are not credited sums plus carried
+unfoldable pub doesNotClose : Ledger → Bool
+doesNotClose l = not (eqb (sum (λ a. a .charged) (l .accounts)) (sum (λ a. a .credited) (l .accounts) + l .carried))
+
+-- ground 6: the length, words 0, 6 and 7, terms, number of ids and ids as grounds 2 to 4 have them, the accounts' bytes, word 3, carried, accounts, sums
+unfoldable pub notALedger : List ℕ → Bool
+notALedger b =
+    let l = ledgerOf b in
+    ltb (length b) ledgerHeaderBytes || notLaidOut b
+    || termsOutside (l .terms) || outside 1 mostIds (accountCount b) || idsOutOfOrder (idsIn l)
+    || ltb (length b) (ledgerBytes (accountCount b))
+    || ltb (intervalsPerDay * l .terms .days) (l .earliest) || ltb mostCents (l .carried)
+    || any (accountOutside (l .terms)) (l .accounts) || doesNotClose l

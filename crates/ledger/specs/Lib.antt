@@ -1,0 +1,6 @@
+pub mod Ledger
+pub mod Opening
+pub mod Settling
+pub mod Year
+pub mod Listing
+pub mod Claims

@@ -1,0 +1,258 @@
+-- Document 01's listing, from the opening block to every byte of ledger and result, and worked figures of the grounds.
+use Prim.Native.Nat.{ℕ, _+_, _*_, _/_}
+use mathlib.Core.Path.{_≡_}
+use mathlib.Core.List.{List, [], _∷_, _++_}
+use lib.ListN.{length, replicate, take, drop}
+use Rattle.words.specs.Words.{word64, bytesOfWords}
+use Rattle.words.specs.Figures.{Figure, _gives_, AllAsStated}
+use Rattle.ledger.specs.Opening.{opening}
+use Rattle.ledger.specs.Settling.{settling}
+
+-- a buffer of so many bytes, each 255
+abbrev pub buffer : ℕ → List ℕ
+buffer n = replicate n 255
+
+-- an opening block of format 1: Net CONE, days, ids
+unfoldable pub blockWith : ℕ → ℕ → List ℕ → List ℕ
+blockWith netCone days ids = bytesOfWords 4 (1 ∷ netCone ∷ days ∷ length ids ∷ 20 ∷ ids)
+
+-- a file of format 1 on those terms: interval, region-wide, net imports, the rows' words and the points' words
+unfoldable pub fileWith : ℕ → ℕ → ℕ → ℕ → ℕ → List ℕ → List ℕ → List ℕ
+fileWith netCone days interval regionWide imports rows points =
+    let header : List ℕ = 1 ∷ interval ∷ netCone ∷ days ∷ regionWide ∷ imports ∷ (length rows / 14) ∷ 40 ∷ (length points / 2) ∷ (40 + 4 * length rows) ∷ [] in
+    bytesOfWords 4 (header ++ rows ++ points)
+
+-- the listing's opening block
+unfoldable pub listingBlock : List ℕ
+listingBlock = blockWith 30000 365 (11 ∷ 12 ∷ 13 ∷ 14 ∷ [])
+
+-- row 11 of the listing, 14 words
+unfoldable pub row11 : List ℕ
+row11 = 11 ∷ 0 ∷ 100000 ∷ 110000 ∷ 60000 ∷ 0 ∷ 10000 ∷ 0 ∷ 110000 ∷ 20000 ∷ 1 ∷ 3000 ∷ 0 ∷ 2 ∷ []
+
+-- row 12
+unfoldable pub row12 : List ℕ
+row12 = 12 ∷ 0 ∷ 50000 ∷ 60000 ∷ 20000 ∷ 5000 ∷ 0 ∷ 35000 ∷ 25000 ∷ 10000 ∷ 1 ∷ 6001 ∷ 2 ∷ 2 ∷ []
+
+-- row 13
+unfoldable pub row13 : List ℕ
+row13 = 13 ∷ 4 ∷ 0 ∷ 40000 ∷ 35000 ∷ 0 ∷ 0 ∷ 0 ∷ 40000 ∷ 0 ∷ 1 ∷ 3000 ∷ 4 ∷ 2 ∷ []
+
+-- row 14
+unfoldable pub row14 : List ℕ
+row14 = 14 ∷ 1 ∷ 5000 ∷ 0 ∷ 15001 ∷ 0 ∷ 0 ∷ 0 ∷ 0 ∷ 0 ∷ 0 ∷ 0 ∷ 0 ∷ 0 ∷ []
+
+-- the listing's points: curve A, then those of rows 12 and 13
+unfoldable pub listingPoints : List ℕ
+listingPoints = 1000 ∷ 20000 ∷ 5000 ∷ 100000 ∷ 1000 ∷ 10000 ∷ 6000 ∷ 50000 ∷ 0 ∷ 0 ∷ 4000 ∷ 40000 ∷ []
+
+-- the listing's file, of an interval, with net imports, region-wide or not
+unfoldable pub listingFile : ℕ → ℕ → ℕ → List ℕ
+listingFile interval regionWide imports = fileWith 30000 365 interval regionWide imports (row11 ++ row12 ++ row13 ++ row14) listingPoints
+
+-- the ledger after opening, in a buffer eight bytes longer than it need be
+unfoldable pub openedListing : List ℕ
+openedListing =
+    bytesOfWords 8 (
+    1 ∷ 30000 ∷ 365 ∷ 0 ∷ 0 ∷ 4 ∷ 8 ∷ 0
+    ∷ 11 ∷ 0 ∷ 0 ∷ 0
+    ∷ 12 ∷ 0 ∷ 0 ∷ 0
+    ∷ 13 ∷ 0 ∷ 0 ∷ 0
+    ∷ 14 ∷ 0 ∷ 0 ∷ 0
+    ∷ []
+    ) ++ buffer 8
+
+-- the ledger after the listing's interval 1000
+unfoldable pub settledListing : List ℕ
+settledListing =
+    bytesOfWords 8 (
+    1 ∷ 30000 ∷ 365 ∷ 1001 ∷ 1 ∷ 4 ∷ 8 ∷ 0
+    ∷ 11 ∷ 100000 ∷ 0 ∷ 0
+    ∷ 12 ∷ 50000 ∷ 557628 ∷ 0
+    ∷ 13 ∷ 0 ∷ 0 ∷ 418210
+    ∷ 14 ∷ 5000 ∷ 0 ∷ 139417
+    ∷ []
+    ) ++ buffer 8
+
+-- the result, in a buffer eight bytes longer than it need be
+unfoldable pub resultListing : List ℕ
+resultListing =
+    bytesOfWords 8 (
+    866673 ∷ 557628 ∷ 557627 ∷ 1 ∷ 40001 ∷ 130001 ∷ 150000 ∷ 4
+    ∷ 86667 ∷ 60000 ∷ 10000 ∷ 26667 ∷ 0 ∷ 0 ∷ 0 ∷ 0
+    ∷ 43333 ∷ 25000 ∷ 0 ∷ 0 ∷ 18333 ∷ 0 ∷ 557628 ∷ 0
+    ∷ 0 ∷ 35000 ∷ 0 ∷ 0 ∷ 0 ∷ 30000 ∷ 0 ∷ 418210
+    ∷ 5000 ∷ 15001 ∷ 0 ∷ 0 ∷ 0 ∷ 10001 ∷ 0 ∷ 139417
+    ∷ []
+    ) ++ buffer 8
+
+-- the whole listing
+pub record ListingHolds : Type 0 where
+  pub opened : opening listingBlock (buffer 200) ≡ record { ground = 0; ledger = openedListing }
+  pub settled : settling openedListing (listingFile 1000 0 0) (buffer 328) ≡ record { ground = 0; ledger = settledListing; result = resultListing }
+
+-- the answer of opening a ledger buffer of so many bytes
+unfoldable pub opens : List ℕ → ℕ → ℕ
+opens block bytes = opening block (buffer bytes) .ground
+
+-- grounds of opening: a block or buffer at a bound, and one beyond it
+unfoldable pub openingFigures : List Figure
+openingFigures =
+    opens listingBlock 192 gives 0
+    ∷ opens (drop 1 listingBlock) 192 gives 1
+    ∷ opens (buffer 19) 192 gives 1
+    ∷ opens (blockWith 30000 365 (11 ∷ [])) 96 gives 0
+    ∷ opens (bytesOfWords 4 (1 ∷ 30000 ∷ 365 ∷ 0 ∷ 20 ∷ [])) 96 gives 3
+    ∷ opens (blockWith 30000 365 (11 ∷ []) ++ buffer 4072) 96 gives 0
+    ∷ opens (blockWith 30000 365 (11 ∷ []) ++ buffer 4073) 96 gives 1
+    ∷ opens (bytesOfWords 4 (2 ∷ 30000 ∷ 365 ∷ 1 ∷ 20 ∷ 11 ∷ [])) 96 gives 1
+    ∷ opens (blockWith 0 365 (11 ∷ [])) 96 gives 2
+    ∷ opens (blockWith 1 366 (11 ∷ [])) 96 gives 0
+    ∷ opens (blockWith 200000 365 (11 ∷ [])) 96 gives 0
+    ∷ opens (blockWith 200001 365 (11 ∷ [])) 96 gives 2
+    ∷ opens (blockWith 30000 364 (11 ∷ [])) 96 gives 2
+    ∷ opens (blockWith 30000 367 (11 ∷ [])) 96 gives 2
+    ∷ opens (bytesOfWords 4 (1 ∷ 30000 ∷ 365 ∷ 513 ∷ 20 ∷ [])) 96 gives 3
+    ∷ opens (bytesOfWords 4 (1 ∷ 30000 ∷ 365 ∷ 1 ∷ 19 ∷ 11 ∷ [])) 96 gives 3
+    ∷ opens (bytesOfWords 4 (1 ∷ 30000 ∷ 365 ∷ 1 ∷ 21 ∷ 11 ∷ [])) 96 gives 3
+    ∷ opens (bytesOfWords 4 (1 ∷ 30000 ∷ 365 ∷ 1 ∷ 4294967295 ∷ 11 ∷ [])) 96 gives 3
+    ∷ opens (blockWith 30000 365 (0 ∷ 11 ∷ [])) 128 gives 4
+    ∷ opens (blockWith 30000 365 (11 ∷ 11 ∷ [])) 128 gives 4
+    ∷ opens (blockWith 30000 365 (11 ∷ 12 ∷ [])) 128 gives 0
+    ∷ opens (blockWith 30000 365 (11 ∷ 12 ∷ [])) 127 gives 5
+    ∷ []
+
+-- the answer of settling a file into the listing's ledger as opened, with a result buffer of so many bytes
+unfoldable pub settles : List ℕ → ℕ → ℕ
+settles file bytes = settling openedListing file (buffer bytes) .ground
+
+-- a ledger at Net CONE 200000 and 366 days: its words 0, 3, 4, 6 and 7, and the accounts' words
+unfoldable pub ledgerWith : ℕ → ℕ → ℕ → ℕ → ℕ → List ℕ → List ℕ
+ledgerWith format earliest carried offset last accounts =
+    bytesOfWords 8 (format ∷ 200000 ∷ 366 ∷ earliest ∷ carried ∷ (length accounts / 4) ∷ offset ∷ last ∷ accounts)
+
+-- a demand resource that metered so many of 4000000 kW at interval 7
+unfoldable pub demandFile : ℕ → ℕ → List ℕ
+demandFile id metered = fileWith 200000 366 7 0 0 (id ∷ 1 ∷ 4000000 ∷ 0 ∷ metered ∷ 0 ∷ 0 ∷ 0 ∷ 0 ∷ 0 ∷ 0 ∷ 0 ∷ 0 ∷ 0 ∷ []) []
+
+-- the answer of settling that file of plant 2, with nothing short, into a ledger
+unfoldable pub holds : List ℕ → ℕ
+holds ledger = settling ledger (demandFile 2 4000000) (buffer 128) .ground
+
+-- ground 6, word by word
+unfoldable pub ledgerFigures : List Figure
+ledgerFigures =
+    holds (ledgerWith 1 7 0 8 0 (1 ∷ 0 ∷ 0 ∷ 0 ∷ 2 ∷ 0 ∷ 0 ∷ 0 ∷ [])) gives 0
+    ∷ holds (ledgerWith 2 7 0 8 0 (1 ∷ 0 ∷ 0 ∷ 0 ∷ 2 ∷ 0 ∷ 0 ∷ 0 ∷ [])) gives 6
+    ∷ holds (ledgerWith 1 105408 0 8 0 (1 ∷ 0 ∷ 0 ∷ 0 ∷ 2 ∷ 0 ∷ 0 ∷ 0 ∷ [])) gives 10
+    ∷ holds (ledgerWith 1 105409 0 8 0 (1 ∷ 0 ∷ 0 ∷ 0 ∷ 2 ∷ 0 ∷ 0 ∷ 0 ∷ [])) gives 6
+    ∷ holds (ledgerWith 1 7 0 9 0 (1 ∷ 0 ∷ 0 ∷ 0 ∷ 2 ∷ 0 ∷ 0 ∷ 0 ∷ [])) gives 6
+    ∷ holds (ledgerWith 1 7 0 8 1 (1 ∷ 0 ∷ 0 ∷ 0 ∷ 2 ∷ 0 ∷ 0 ∷ 0 ∷ [])) gives 6
+    ∷ holds (ledgerWith 1 7 0 8 0 []) gives 6
+    ∷ holds (ledgerWith 1 7 0 8 0 (0 ∷ 0 ∷ 0 ∷ 0 ∷ 2 ∷ 0 ∷ 0 ∷ 0 ∷ [])) gives 6
+    ∷ holds (ledgerWith 1 7 0 8 0 (2 ∷ 0 ∷ 0 ∷ 0 ∷ 2 ∷ 0 ∷ 0 ∷ 0 ∷ [])) gives 6
+    ∷ holds (buffer 63) gives 6
+    ∷ holds (drop 1 (ledgerWith 1 7 0 8 0 (1 ∷ 0 ∷ 0 ∷ 0 ∷ 2 ∷ 0 ∷ 0 ∷ 0 ∷ []))) gives 6
+    -- commitment, charged sum and its limit, sums that close
+    ∷ holds (ledgerWith 1 7 5 8 0 (1 ∷ 4000000 ∷ 439200000000 ∷ 0 ∷ 2 ∷ 4000000 ∷ 5 ∷ 439200000000 ∷ [])) gives 0
+    ∷ holds (ledgerWith 1 7 5 8 0 (1 ∷ 4000001 ∷ 439200000000 ∷ 0 ∷ 2 ∷ 4000000 ∷ 5 ∷ 439200000000 ∷ [])) gives 6
+    ∷ holds (ledgerWith 1 7 6 8 0 (1 ∷ 4000000 ∷ 439200000001 ∷ 0 ∷ 2 ∷ 4000000 ∷ 5 ∷ 439200000000 ∷ [])) gives 6
+    ∷ holds (ledgerWith 1 7 6 8 0 (1 ∷ 4000000 ∷ 439200000000 ∷ 0 ∷ 2 ∷ 4000000 ∷ 5 ∷ 439200000000 ∷ [])) gives 6
+    -- 64-bit words, which do not count as equal by their lower halves
+    ∷ holds (bytesOfWords 8 (1 ∷ 200000 ∷ 4294967662 ∷ 7 ∷ 0 ∷ 1 ∷ 8 ∷ 0 ∷ 2 ∷ 0 ∷ 0 ∷ 0 ∷ [])) gives 6
+    ∷ holds (ledgerWith 1 7 0 8 0 (4294967298 ∷ 0 ∷ 0 ∷ 0 ∷ [])) gives 12
+    -- carried cents at their most, and one more
+    ∷ holds (ledgerWith 1 7 1099511627775 8 0 (1 ∷ 4000000 ∷ 439200000000 ∷ 0 ∷ 2 ∷ 4000000 ∷ 439200000000 ∷ 0 ∷ 3 ∷ 4000000 ∷ 221111627775 ∷ 0 ∷ [])) gives 0
+    ∷ holds (ledgerWith 1 7 1099511627776 8 0 (1 ∷ 4000000 ∷ 439200000000 ∷ 0 ∷ 2 ∷ 4000000 ∷ 439200000000 ∷ 0 ∷ 3 ∷ 4000000 ∷ 221111627776 ∷ 0 ∷ [])) gives 6
+    ∷ []
+
+-- plant 2 at its limit, plant 3 not, and the carried cents at their most
+unfoldable pub fullPool : List ℕ
+fullPool = ledgerWith 1 7 1099511627775 8 0 (1 ∷ 4000000 ∷ 439200000000 ∷ 0 ∷ 2 ∷ 4000000 ∷ 439200000000 ∷ 0 ∷ 3 ∷ 4000000 ∷ 221111627775 ∷ 0 ∷ [])
+
+-- a row of id 11 with a first point and a number of points
+unfoldable pub rowWithPoints : ℕ → ℕ → List ℕ
+rowWithPoints first count = 11 ∷ 0 ∷ 0 ∷ 0 ∷ 0 ∷ 0 ∷ 0 ∷ 0 ∷ 0 ∷ 0 ∷ 0 ∷ 0 ∷ first ∷ count ∷ []
+
+-- a row of id 12 and a kind, with nothing in it
+unfoldable pub rowOfKind : ℕ → List ℕ
+rowOfKind kind = 12 ∷ kind ∷ 0 ∷ 0 ∷ 0 ∷ 0 ∷ 0 ∷ 0 ∷ 0 ∷ 0 ∷ 0 ∷ 0 ∷ 0 ∷ 0 ∷ []
+
+-- grounds of settling: a file or buffer at a bound, and one beyond it
+unfoldable pub settlingFigures : List Figure
+settlingFigures =
+    settles (listingFile 1000 0 0) 320 gives 0
+    ∷ settles (listingFile 1000 0 0) 319 gives 15
+    ∷ settles (drop 1 (listingFile 1000 0 0)) 320 gives 7
+    ∷ settles (buffer 39) 320 gives 7
+    ∷ settles (fileWith 30001 365 1000 0 0 row14 []) 320 gives 8
+    ∷ settles (fileWith 30000 366 1000 0 0 row14 []) 320 gives 8
+    ∷ settles (listingFile 105119 0 0) 320 gives 0
+    ∷ settles (listingFile 105120 0 0) 320 gives 9
+    ∷ settles (listingFile 1000 1 40000000) 320 gives 0
+    ∷ settles (listingFile 1000 1 40000001) 320 gives 9
+    ∷ settles (listingFile 1000 1 4254967296) 320 gives 0
+    ∷ settles (listingFile 1000 1 4254967295) 320 gives 9
+    ∷ settles (listingFile 1000 2 0) 320 gives 9
+    ∷ settling settledListing (listingFile 1000 0 0) (buffer 320) .ground gives 10
+    ∷ settling settledListing (listingFile 1001 0 0) (buffer 320) .ground gives 0
+    ∷ settles (fileWith 30000 365 1000 0 0 [] []) 320 gives 11
+    ∷ settles (fileWith 30000 365 1000 0 0 (row12 ++ row11) listingPoints) 320 gives 12
+    ∷ settles (fileWith 30000 365 1000 0 0 (row14 ++ row14) []) 320 gives 12
+    ∷ settles (fileWith 30000 365 1000 0 0 (15 ∷ drop 1 row14) []) 320 gives 12
+    ∷ settles (fileWith 30000 365 1000 0 0 (rowOfKind 4) []) 320 gives 0
+    ∷ settles (fileWith 30000 365 1000 0 0 (rowOfKind 5) []) 320 gives 13
+    ∷ settles (fileWith 30000 365 1000 0 0 (rowWithPoints 0 2) (1 ∷ 1 ∷ 1 ∷ 1 ∷ [])) 320 gives 0
+    ∷ settles (fileWith 30000 365 1000 0 0 (rowWithPoints 0 2) (1 ∷ 1 ∷ 0 ∷ 1 ∷ [])) 320 gives 14
+    ∷ settles (fileWith 30000 365 1000 0 0 (rowWithPoints 0 2) (1 ∷ 1 ∷ 1 ∷ 0 ∷ [])) 320 gives 14
+    ∷ settles (fileWith 30000 365 1000 0 0 (rowWithPoints 1 2) (1 ∷ 1 ∷ 1 ∷ 1 ∷ [])) 320 gives 14
+    ∷ settles (fileWith 30000 365 1000 0 0 (rowWithPoints 4294967295 0) []) 320 gives 0
+    -- a full pool: a shortfall whose charge the limit cuts to 0, and one that is charged
+    ∷ settling fullPool (demandFile 2 0) (buffer 128) .ground gives 0
+    ∷ settling fullPool (demandFile 3 0) (buffer 128) .ground gives 16
+    ∷ []
+
+-- checking order: each call here has two faults of neighbouring grounds, and the first is answered
+unfoldable pub orderFigures : List Figure
+orderFigures =
+    opens (bytesOfWords 4 (2 ∷ 0 ∷ 365 ∷ 1 ∷ 20 ∷ 11 ∷ [])) 96 gives 1
+    ∷ opens (blockWith 0 365 []) 96 gives 2
+    ∷ opens (bytesOfWords 4 (1 ∷ 30000 ∷ 365 ∷ 2 ∷ 21 ∷ 11 ∷ 11 ∷ [])) 128 gives 3
+    ∷ opens (blockWith 30000 365 (11 ∷ 11 ∷ [])) 127 gives 4
+    ∷ settling (buffer 63) (buffer 39) (buffer 128) .ground gives 6
+    ∷ settles (buffer 39) 320 gives 7
+    ∷ settles (fileWith 30001 365 105120 0 0 row14 []) 320 gives 8
+    ∷ settling settledListing (listingFile 1000 2 0) (buffer 320) .ground gives 9
+    ∷ settling settledListing (fileWith 30000 365 1000 0 0 [] []) (buffer 320) .ground gives 10
+    ∷ settles (take 95 (fileWith 30000 365 1000 0 0 (15 ∷ drop 1 row14) [])) 320 gives 11
+    ∷ settles (fileWith 30000 365 1000 0 0 (15 ∷ 5 ∷ drop 2 row14) []) 320 gives 12
+    -- a first row whose points fall and a second row of kind 5: all rows are tested for 13 before any for 14
+    ∷ settles (fileWith 30000 365 1000 0 0 (rowWithPoints 0 2 ++ rowOfKind 5) (1 ∷ 1 ∷ 0 ∷ 1 ∷ [])) 320 gives 13
+    ∷ settles (fileWith 30000 365 1000 0 0 (rowWithPoints 0 2) (1 ∷ 1 ∷ 0 ∷ 1 ∷ [])) 127 gives 14
+    ∷ settling fullPool (demandFile 3 0) (buffer 127) .ground gives 15
+    ∷ []
+
+-- the words of the ledger that settling leaves
+unfoldable pub leaves : List ℕ → List ℕ → ℕ → ℕ
+leaves ledger file k = word64 (settling ledger file (buffer 320) .ledger) k
+
+-- figures of an accepted file that neither the listing nor the sums of a year tell
+unfoldable pub settledFigures : List Figure
+settledFigures =
+    -- imports do not count when the event is not region-wide (1000000 if they did)
+    word64 (settling openedListing (listingFile 1000 0 19999) (buffer 320) .result) 0 gives 866673
+    -- a PRD row not considered raises its account's largest commitment, word 13
+    ∷ leaves openedListing (fileWith 30000 365 1000 0 0 (12 ∷ 3 ∷ 3000 ∷ drop 3 (rowOfKind 3)) []) 13 gives 3000
+    -- a second file adds to an account's charges and credits, and shares the cent carried
+    ∷ leaves settledListing (listingFile 1001 0 0) 14 gives 1115256
+    ∷ leaves settledListing (listingFile 1001 0 0) 19 gives 836421
+    ∷ leaves settledListing (listingFile 1001 0 0) 4 gives 1
+    ∷ []
+
+-- all figures of the grounds and of accepted files
+pub record GroundFigures : Type 0 where
+  pub opening-figures : AllAsStated openingFigures
+  pub ledger-figures : AllAsStated ledgerFigures
+  pub settling-figures : AllAsStated settlingFigures
+  pub order-figures : AllAsStated orderFigures
+  pub settled-figures : AllAsStated settledFigures

@@ -1,0 +1,1 @@
+// The ledger of a delivery year: opening it, and settling interval files into it.

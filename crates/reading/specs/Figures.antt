@@ -1,0 +1,226 @@
+-- Worked figures of the layouts and of the grounds that a block or a file alone decides.
+use Prim.Native.Nat.{ℕ, _+_}
+use mathlib.Core.Path.{_≡_}
+use mathlib.Core.List.{List, [], _∷_, _++_}
+use lib.ListN.{length, replicate}
+use lib.IntN.{ℤ, pos, negsuc}
+use Rattle.words.specs.Words.{bytesOfWords}
+use Rattle.words.specs.Figures.{Figure, _gives_, AllAsStated, test}
+use Rattle.reading.specs.Block.{Terms, Block, blockOf, notABlock, termsOutside, idsMisplaced, idsOutOfOrder}
+use Rattle.reading.specs.Interval.{
+  Header,
+  Point,
+  Row,
+  headerOf,
+  rowsOf,
+  notAFile,
+  headerOutside,
+  tablesMisplaced,
+  rowOutside,
+  pointsOutside,
+}
+
+-- a block with a word before its ids, and another after them
+unfoldable pub sampleBlock : List ℕ
+sampleBlock = bytesOfWords 4 (1 ∷ 2 ∷ 3 ∷ 2 ∷ 24 ∷ 99 ∷ 7 ∷ 8 ∷ 99 ∷ [])
+
+-- a file of one row whose words are told apart, before which three points stand
+unfoldable pub sampleFile : List ℕ
+sampleFile =
+    bytesOfWords 4 (
+    1 ∷ 2 ∷ 3 ∷ 4 ∷ 5 ∷ 4294967290 ∷ 1 ∷ 64 ∷ 3 ∷ 40
+    ∷ 91 ∷ 92 ∷ 4294967286 ∷ 94 ∷ 95 ∷ 96
+    ∷ 11 ∷ 12 ∷ 13 ∷ 14 ∷ 4294967281 ∷ 16 ∷ 17 ∷ 18 ∷ 19 ∷ 20 ∷ 21 ∷ 4294967274 ∷ 1 ∷ 2
+    ∷ []
+    )
+
+-- each word is read from its place
+pub record LayoutFigures : Type 0 where
+  pub block : blockOf sampleBlock ≡ record { format = 1; terms = record { netCone = 2; days = 3 }; idCount = 2; idsOffset = 24; ids = 7 ∷ 8 ∷ [] }
+  pub header : headerOf sampleFile
+      ≡ record {
+        format = 1;
+        interval = 2;
+        terms = record { netCone = 3; days = 4 };
+        regionWide = 5;
+        imports = negsuc 5;
+        rowCount = 1;
+        rowsOffset = 64;
+        pointCount = 3;
+        pointsOffset = 40;
+      }
+  pub rows : rowsOf sampleFile
+      ≡ record {
+        id = 11;
+        kind = 12;
+        committed = 13;
+        owned = 14;
+        metered = negsuc 14;
+        adjustment = pos 16;
+        planned = 17;
+        forced = 18;
+        maximum = 19;
+        minimum = 20;
+        online = 21;
+        lmp = negsuc 21;
+        firstPoint = 1;
+        pointCount = 2;
+        curve = record { price = negsuc 9; kw = 94 } ∷ record { price = pos 95; kw = 96 } ∷ [];
+      }
+      ∷ []
+
+-- a header of an interval in a year of so many days, region-wide, and net imports
+abbrev pub heading : ℕ → ℕ → ℕ → ℤ → Header
+heading interval days regionWide imports = record {
+  format = 1;
+  interval = interval;
+  terms = record { netCone = 1; days = days };
+  regionWide = regionWide;
+  imports = imports;
+  rowCount = 0;
+  rowsOffset = 0;
+  pointCount = 0;
+  pointsOffset = 0;
+}
+
+-- a file of so many bytes: rows, their offset, points, their offset
+unfoldable pub tables : ℕ → ℕ → ℕ → ℕ → ℕ → List ℕ
+tables bytes rows rowsOffset points pointsOffset = bytesOfWords 4 (1 ∷ 0 ∷ 0 ∷ 0 ∷ 0 ∷ 0 ∷ rows ∷ rowsOffset ∷ points ∷ pointsOffset ∷ []) ++ replicate bytes 0
+
+-- a row: kind, committed, owned, metered, adjustment, planned, forced, maximum, minimum, online, LMP, and its points
+abbrev pub rowWith : ℕ → ℕ → ℕ → ℤ → ℤ → ℕ → ℕ → ℕ → ℕ → ℕ → ℤ → ℕ → List Point → Row
+rowWith kind committed owned metered adjustment planned forced maximum minimum online lmp first curve = record {
+  id = 1;
+  kind = kind;
+  committed = committed;
+  owned = owned;
+  metered = metered;
+  adjustment = adjustment;
+  planned = planned;
+  forced = forced;
+  maximum = maximum;
+  minimum = minimum;
+  online = online;
+  lmp = lmp;
+  firstPoint = first;
+  pointCount = length curve;
+  curve = curve;
+}
+
+-- a row with nothing in it but points
+abbrev pub rowOn : ℕ → List Point → Row
+rowOn = rowWith 0 0 0 (pos 0) (pos 0) 0 0 0 0 0 (pos 0)
+
+-- a point
+abbrev pub at : ℤ → ℕ → Point
+at price kw = record { price = price; kw = kw }
+
+-- grounds 1 to 4, at a bound and beyond it
+unfoldable pub blockFigures : List Figure
+blockFigures =
+    test (notABlock (bytesOfWords 4 (1 ∷ 0 ∷ 0 ∷ 0 ∷ 0 ∷ []))) gives 0
+    ∷ test (notABlock (bytesOfWords 4 (1 ∷ 0 ∷ 0 ∷ 0 ∷ []) ++ replicate 3 0)) gives 1
+    ∷ test (notABlock (bytesOfWords 4 (1 ∷ []) ++ replicate 4092 0)) gives 0
+    ∷ test (notABlock (bytesOfWords 4 (1 ∷ []) ++ replicate 4093 0)) gives 1
+    ∷ test (notABlock (bytesOfWords 4 (2 ∷ 0 ∷ 0 ∷ 0 ∷ 0 ∷ []))) gives 1
+    ∷ test (termsOutside (record { netCone = 0; days = 365 })) gives 1
+    ∷ test (termsOutside (record { netCone = 1; days = 365 })) gives 0
+    ∷ test (termsOutside (record { netCone = 200000; days = 366 })) gives 0
+    ∷ test (termsOutside (record { netCone = 200001; days = 366 })) gives 1
+    ∷ test (termsOutside (record { netCone = 1; days = 364 })) gives 1
+    ∷ test (termsOutside (record { netCone = 1; days = 367 })) gives 1
+    ∷ test (idsMisplaced (bytesOfWords 4 (1 ∷ 1 ∷ 365 ∷ 0 ∷ 20 ∷ []))) gives 1
+    ∷ test (idsMisplaced (bytesOfWords 4 (1 ∷ 1 ∷ 365 ∷ 1 ∷ 20 ∷ 7 ∷ []))) gives 0
+    ∷ test (idsMisplaced (bytesOfWords 4 (1 ∷ 1 ∷ 365 ∷ 1 ∷ 19 ∷ 7 ∷ []))) gives 1
+    ∷ test (idsMisplaced (bytesOfWords 4 (1 ∷ 1 ∷ 365 ∷ 1 ∷ 21 ∷ 7 ∷ []))) gives 1
+    ∷ test (idsMisplaced (bytesOfWords 4 (1 ∷ 1 ∷ 365 ∷ 512 ∷ 20 ∷ []) ++ replicate 2048 1)) gives 0
+    ∷ test (idsMisplaced (bytesOfWords 4 (1 ∷ 1 ∷ 365 ∷ 513 ∷ 20 ∷ []) ++ replicate 2052 1)) gives 1
+    ∷ test (idsOutOfOrder (1 ∷ 2 ∷ [])) gives 0
+    ∷ test (idsOutOfOrder (0 ∷ 2 ∷ [])) gives 1
+    ∷ test (idsOutOfOrder (2 ∷ 2 ∷ [])) gives 1
+    ∷ test (idsOutOfOrder (2 ∷ 1 ∷ [])) gives 1
+    ∷ []
+
+-- grounds 7, 9 and 11, at a bound and beyond it
+unfoldable pub fileFigures : List Figure
+fileFigures =
+    test (notAFile (tables 0 0 0 0 0)) gives 0
+    ∷ test (notAFile (bytesOfWords 4 (1 ∷ []) ++ replicate 35 0)) gives 1
+    ∷ test (notAFile (tables 49112 0 0 0 0)) gives 0
+    ∷ test (notAFile (tables 49113 0 0 0 0)) gives 1
+    ∷ test (notAFile (replicate 40 0)) gives 1
+    ∷ test (headerOutside (heading 105119 365 1 (pos 40000000))) gives 0
+    ∷ test (headerOutside (heading 105120 365 0 (pos 0))) gives 1
+    ∷ test (headerOutside (heading 105407 366 0 (negsuc 39999999))) gives 0
+    ∷ test (headerOutside (heading 105408 366 0 (pos 0))) gives 1
+    ∷ test (headerOutside (heading 0 365 2 (pos 0))) gives 1
+    ∷ test (headerOutside (heading 0 365 0 (pos 40000001))) gives 1
+    ∷ test (headerOutside (heading 0 365 0 (negsuc 40000000))) gives 1
+    ∷ test (tablesMisplaced (tables 64 1 40 1 96)) gives 0
+    ∷ test (tablesMisplaced (tables 64 1 48 1 40)) gives 0
+    ∷ test (tablesMisplaced (tables 64 0 40 1 96)) gives 1
+    ∷ test (tablesMisplaced (tables 64 1 39 1 96)) gives 1
+    ∷ test (tablesMisplaced (tables 64 1 40 1 97)) gives 1
+    ∷ test (tablesMisplaced (tables 64 1 49 1 40)) gives 1
+    ∷ test (tablesMisplaced (tables 64 1 40 1 95)) gives 1
+    ∷ test (tablesMisplaced (tables 64 1 47 1 40)) gives 1
+    ∷ test (tablesMisplaced (tables 56 1 40 0 40)) gives 0
+    ∷ test (tablesMisplaced (tables 56 1 40 0 96)) gives 0
+    ∷ test (tablesMisplaced (tables 56 1 40 0 39)) gives 1
+    ∷ test (tablesMisplaced (tables 56 1 40 0 97)) gives 1
+    ∷ test (tablesMisplaced (tables 64 1 4294967295 1 40)) gives 1
+    ∷ test (tablesMisplaced (tables 28672 512 40 0 40)) gives 0
+    ∷ test (tablesMisplaced (tables 28728 513 40 0 40)) gives 1
+    ∷ test (tablesMisplaced (tables 16440 1 40 2048 96)) gives 0
+    ∷ test (tablesMisplaced (tables 16448 1 40 2049 96)) gives 1
+    ∷ []
+
+-- ground 13, at a bound and beyond it
+unfoldable pub rowFigures : List Figure
+rowFigures =
+    test (rowOutside (rowWith 3 4000000 4000000 (pos 4000000) (negsuc 3999999) 4000000 4000000 4000000 4000000 1 (pos 1000000) 0 [])) gives 0
+    ∷ test (rowOutside (rowWith 4 0 0 (negsuc 3999999) (pos 4000000) 0 0 0 0 0 (negsuc 999999) 0 [])) gives 0
+    ∷ test (rowOutside (rowWith 5 0 0 (pos 0) (pos 0) 0 0 0 0 0 (pos 0) 0 [])) gives 1
+    ∷ test (rowOutside (rowWith 4 1 0 (pos 0) (pos 0) 0 0 0 0 0 (pos 0) 0 [])) gives 1
+    ∷ test (rowOutside (rowWith 0 4000001 0 (pos 0) (pos 0) 0 0 0 0 0 (pos 0) 0 [])) gives 1
+    ∷ test (rowOutside (rowWith 0 0 4000001 (pos 0) (pos 0) 0 0 0 0 0 (pos 0) 0 [])) gives 1
+    ∷ test (rowOutside (rowWith 0 0 0 (pos 4000001) (pos 0) 0 0 0 0 0 (pos 0) 0 [])) gives 1
+    ∷ test (rowOutside (rowWith 0 0 0 (negsuc 4000000) (pos 0) 0 0 0 0 0 (pos 0) 0 [])) gives 1
+    ∷ test (rowOutside (rowWith 0 0 0 (pos 0) (pos 4000001) 0 0 0 0 0 (pos 0) 0 [])) gives 1
+    ∷ test (rowOutside (rowWith 0 0 0 (pos 0) (negsuc 4000000) 0 0 0 0 0 (pos 0) 0 [])) gives 1
+    ∷ test (rowOutside (rowWith 0 0 0 (pos 0) (pos 0) 4000001 0 0 0 0 (pos 0) 0 [])) gives 1
+    ∷ test (rowOutside (rowWith 0 0 0 (pos 0) (pos 0) 0 4000001 0 0 0 (pos 0) 0 [])) gives 1
+    ∷ test (rowOutside (rowWith 0 0 0 (pos 0) (pos 0) 0 0 4000001 0 0 (pos 0) 0 [])) gives 1
+    ∷ test (rowOutside (rowWith 0 0 0 (pos 0) (pos 0) 0 0 4000001 4000001 0 (pos 0) 0 [])) gives 1
+    ∷ test (rowOutside (rowWith 0 0 0 (pos 0) (pos 0) 0 0 5 5 0 (pos 0) 0 [])) gives 0
+    ∷ test (rowOutside (rowWith 0 0 0 (pos 0) (pos 0) 0 0 5 6 0 (pos 0) 0 [])) gives 1
+    ∷ test (rowOutside (rowWith 0 0 0 (pos 0) (pos 0) 0 0 0 0 2 (pos 0) 0 [])) gives 1
+    ∷ test (rowOutside (rowWith 0 0 0 (pos 0) (pos 0) 0 0 0 0 0 (pos 1000001) 0 [])) gives 1
+    ∷ test (rowOutside (rowWith 0 0 0 (pos 0) (pos 0) 0 0 0 0 0 (negsuc 1000000) 0 [])) gives 1
+    ∷ []
+
+-- ground 14, at a bound and beyond it
+unfoldable pub pointFigures : List Figure
+pointFigures =
+    test (pointsOutside 10 (rowOn 0 (replicate 10 (at (pos 1) 1)))) gives 0
+    ∷ test (pointsOutside 11 (rowOn 0 (replicate 11 (at (pos 1) 1)))) gives 1
+    ∷ test (pointsOutside 3 (rowOn 1 (at (pos 1) 1 ∷ at (pos 1) 1 ∷ []))) gives 0
+    ∷ test (pointsOutside 3 (rowOn 2 (at (pos 1) 1 ∷ at (pos 1) 1 ∷ []))) gives 1
+    ∷ test (pointsOutside 3 (rowOn 4294967295 (at (pos 1) 1 ∷ []))) gives 1
+    ∷ test (pointsOutside 0 (rowOn 4294967295 [])) gives 0
+    ∷ test (pointsOutside 1 (rowOn 0 (at (pos 1000000) 4000000 ∷ []))) gives 0
+    ∷ test (pointsOutside 1 (rowOn 0 (at (pos 1000001) 0 ∷ []))) gives 1
+    ∷ test (pointsOutside 1 (rowOn 0 (at (negsuc 999999) 0 ∷ []))) gives 0
+    ∷ test (pointsOutside 1 (rowOn 0 (at (negsuc 1000000) 0 ∷ []))) gives 1
+    ∷ test (pointsOutside 1 (rowOn 0 (at (pos 0) 4000001 ∷ []))) gives 1
+    ∷ test (pointsOutside 2 (rowOn 0 (at (negsuc 1) 2 ∷ at (negsuc 2) 2 ∷ []))) gives 1
+    ∷ test (pointsOutside 2 (rowOn 0 (at (negsuc 1) 2 ∷ at (negsuc 0) 1 ∷ []))) gives 1
+    ∷ test (pointsOutside 3 (rowOn 0 (at (negsuc 1) 2 ∷ at (negsuc 0) 3 ∷ at (pos 0) 2 ∷ []))) gives 1
+    ∷ []
+
+-- all figures of grounds that a block or a file alone decides
+pub record GroundFigures : Type 0 where
+  pub block : AllAsStated blockFigures
+  pub file : AllAsStated fileFigures
+  pub row : AllAsStated rowFigures
+  pub points : AllAsStated pointFigures

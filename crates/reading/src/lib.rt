@@ -1,0 +1,1 @@
+// What an opening block and an interval file say.

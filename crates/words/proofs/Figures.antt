@@ -1,0 +1,8 @@
+-- The worked figures of words and grounds, computed.
+use mathlib.Core.Path.{refl}
+use Rattle.words.specs.Figures.{tenBytes, wordFigures, WordFigures}
+use Rattle.words.proofs.Computing.{computing}
+
+pub word-figures : WordFigures
+unfolding tenBytes wordFigures computing
+word-figures = record { words = refl; greatest = refl; least = refl; minus-one = refl; bytes = refl; table = refl; beyond-words = refl }

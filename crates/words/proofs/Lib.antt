@@ -1,0 +1,6 @@
+pub mod Computing
+pub mod Figures
+pub mod Tests
+pub mod Lists
+pub mod Words
+pub mod Grounds

@@ -1,0 +1,1 @@
+// Little-endian words in byte buffers, below the three layers.

@@ -1,0 +1,233 @@
+//! Opening blocks, ledgers and interval files as fields, and their bytes.
+//!
+//! Counts, offsets and lengths are fields of their own, so that a test can set
+//! them against what is really there. What does not fit is not written.
+
+/// Writes bytes at an offset, as far as the buffer reaches.
+fn put(buffer: &mut [u8], at: usize, bytes: &[u8]) {
+    for (index, byte) in bytes.iter().enumerate() {
+        if let Some(place) = buffer.get_mut(at + index) {
+            *place = *byte;
+        }
+    }
+}
+
+/// Writes 32-bit words at an offset.
+pub fn put_words(buffer: &mut [u8], at: usize, words: &[u32]) {
+    for (index, word) in words.iter().enumerate() {
+        put(buffer, at + 4 * index, &word.to_le_bytes());
+    }
+}
+
+/// Writes 64-bit words at an offset.
+pub fn put_longs(buffer: &mut [u8], at: usize, words: &[u64]) {
+    for (index, word) in words.iter().enumerate() {
+        put(buffer, at + 8 * index, &word.to_le_bytes());
+    }
+}
+
+/// The 32-bit word at an offset, if it is wholly there.
+pub fn word_at(buffer: &[u8], at: usize) -> Option<u32> {
+    let bytes = buffer.get(at..at.checked_add(4)?)?;
+    Some(u32::from_le_bytes(bytes.try_into().ok()?))
+}
+
+/// The 64-bit word with this number, if it is wholly there.
+pub fn long_at(buffer: &[u8], word: usize) -> Option<u64> {
+    let bytes = buffer.get(8 * word..8 * word + 8)?;
+    Some(u64::from_le_bytes(bytes.try_into().ok()?))
+}
+
+/// An opening block.
+#[derive(Clone, Debug)]
+pub struct Opening {
+    pub words: [u32; 5],
+    pub ids: Vec<u32>,
+    pub ids_at: usize,
+    pub length: usize,
+}
+
+impl Opening {
+    /// A block with the ids right behind the first words.
+    pub fn new(net_cone: u32, days: u32, ids: &[u32]) -> Self {
+        let mut opening = Opening {
+            words: [1, net_cone, days, ids.len() as u32, 20],
+            ids: ids.to_vec(),
+            ids_at: 20,
+            length: 0,
+        };
+        opening.place(20, 0);
+        opening
+    }
+
+    /// Puts the ids at an offset and leaves a gap behind them.
+    pub fn place(&mut self, ids_at: usize, gap: usize) {
+        self.ids_at = ids_at;
+        self.words[4] = ids_at as u32;
+        self.length = ids_at + 4 * self.ids.len() + gap;
+    }
+
+    /// The block, with zeros in its gaps.
+    pub fn bytes(&self) -> Vec<u8> {
+        self.over(vec![0; self.length])
+    }
+
+    /// The block, with gaps as they are in the buffer.
+    pub fn over(&self, mut buffer: Vec<u8>) -> Vec<u8> {
+        put_words(&mut buffer, self.ids_at, &self.ids);
+        put_words(&mut buffer, 0, &self.words);
+        buffer
+    }
+}
+
+/// A ledger; an account is id, largest commitment, charged, credited.
+#[derive(Clone, Debug)]
+pub struct Ledger {
+    pub words: [u64; 8],
+    pub accounts: Vec<[u64; 4]>,
+    pub length: usize,
+}
+
+impl Ledger {
+    /// A ledger as opening leaves it.
+    pub fn new(net_cone: u32, days: u32, ids: &[u32]) -> Self {
+        let count = ids.len() as u64;
+        Ledger {
+            words: [1, net_cone.into(), days.into(), 0, 0, count, 8, 0],
+            accounts: ids.iter().map(|id| [u64::from(*id), 0, 0, 0]).collect(),
+            length: 64 + 32 * ids.len(),
+        }
+    }
+
+    /// The ledger, with zeros behind the accounts.
+    pub fn bytes(&self) -> Vec<u8> {
+        self.over(vec![0; self.length])
+    }
+
+    /// The ledger over a buffer, whose bytes stay behind the accounts.
+    pub fn over(&self, mut buffer: Vec<u8>) -> Vec<u8> {
+        put_longs(&mut buffer, 0, &self.words);
+        for (index, account) in self.accounts.iter().enumerate() {
+            put_longs(&mut buffer, 64 + 32 * index, account);
+        }
+        buffer
+    }
+}
+
+/// One row of an interval file, by names.
+#[derive(Clone, Copy, Debug, Default)]
+pub struct Row {
+    pub id: u32,
+    pub kind: u32,
+    pub committed: u32,
+    pub owned: u32,
+    pub metered: i32,
+    pub adjustment: i32,
+    pub planned: u32,
+    pub forced: u32,
+    pub maximum: u32,
+    pub minimum: u32,
+    pub online: u32,
+    pub lmp: i32,
+    pub first: u32,
+    pub count: u32,
+}
+
+impl Row {
+    /// The fourteen words of the row.
+    pub fn words(&self) -> [u32; 14] {
+        [
+            self.id,
+            self.kind,
+            self.committed,
+            self.owned,
+            self.metered as u32,
+            self.adjustment as u32,
+            self.planned,
+            self.forced,
+            self.maximum,
+            self.minimum,
+            self.online,
+            self.lmp as u32,
+            self.first,
+            self.count,
+        ]
+    }
+}
+
+/// The two words of a point.
+pub fn point(price: i32, kw: u32) -> [u32; 2] {
+    [price as u32, kw]
+}
+
+/// An interval file.
+#[derive(Clone, Debug)]
+pub struct IntervalFile {
+    pub head: [u32; 10],
+    pub rows: Vec<[u32; 14]>,
+    pub points: Vec<[u32; 2]>,
+    pub rows_at: usize,
+    pub points_at: usize,
+    pub length: usize,
+}
+
+impl IntervalFile {
+    /// A file without region-wide event, rows behind the header, points behind the rows.
+    pub fn new(
+        net_cone: u32,
+        days: u32,
+        interval: u32,
+        rows: Vec<[u32; 14]>,
+        points: Vec<[u32; 2]>,
+    ) -> Self {
+        let mut file = IntervalFile {
+            head: [1, interval, net_cone, days, 0, 0, 0, 0, 0, 0],
+            rows,
+            points,
+            rows_at: 0,
+            points_at: 0,
+            length: 0,
+        };
+        let end = 40 + file.row_bytes();
+        file.place(40, end, end + file.point_bytes());
+        file
+    }
+
+    /// The bytes of the rows.
+    pub fn row_bytes(&self) -> usize {
+        56 * self.rows.len()
+    }
+
+    /// The bytes of the points.
+    pub fn point_bytes(&self) -> usize {
+        8 * self.points.len()
+    }
+
+    /// Puts both tables at offsets and says so in the header.
+    pub fn place(&mut self, rows_at: usize, points_at: usize, length: usize) {
+        self.rows_at = rows_at;
+        self.points_at = points_at;
+        self.length = length;
+        self.head[6] = self.rows.len() as u32;
+        self.head[7] = rows_at as u32;
+        self.head[8] = self.points.len() as u32;
+        self.head[9] = points_at as u32;
+    }
+
+    /// The file, with zeros in its gaps.
+    pub fn bytes(&self) -> Vec<u8> {
+        self.over(vec![0; self.length])
+    }
+
+    /// The file, with gaps as they are in the buffer.
+    pub fn over(&self, mut buffer: Vec<u8>) -> Vec<u8> {
+        for (index, point) in self.points.iter().enumerate() {
+            put_words(&mut buffer, self.points_at + 8 * index, point);
+        }
+        for (index, row) in self.rows.iter().enumerate() {
+            put_words(&mut buffer, self.rows_at + 56 * index, row);
+        }
+        put_words(&mut buffer, 0, &self.head);
+        buffer
+    }
+}

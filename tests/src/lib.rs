@@ -1,0 +1,7 @@
+//! A plain reference for opening, settling and listing, with random cases.
+#![forbid(unsafe_code)]
+
+pub mod layout;
+pub mod random;
+pub mod reference;
+pub mod small;

@@ -1,0 +1,404 @@
+//! The figures the trade gave, each through opening, settling or listing.
+
+use npa_tests::layout::{long_at, point, IntervalFile, Ledger, Opening, Row};
+use npa_tests::random::push_block;
+use npa_tests::reference::{npalist, open, settle, HEADING};
+
+const NET_CONE: u32 = 30_000;
+const DAYS: u32 = 365;
+
+/// Settles one file into a ledger; the answer, the row words and the interval words.
+fn settled(ledger: &Ledger, file: &IntervalFile) -> (u32, Vec<[u64; 8]>, [u64; 8]) {
+    let mut ledger = ledger.bytes();
+    let mut result = vec![0xaa; 64 + 64 * file.rows.len()];
+    let ground = settle(&mut ledger, &file.bytes(), &mut result);
+    let words = |group: usize| std::array::from_fn(|i| long_at(&result, 8 * group + i).unwrap());
+    let rows = (1..=file.rows.len()).map(words).collect();
+    (ground, rows, words(0))
+}
+
+/// The words of an accepted file of one row, in a new ledger.
+fn one_row(net_cone: u32, row: Row, points: &[[u32; 2]]) -> [u64; 8] {
+    let ledger = Ledger::new(net_cone, DAYS, &[row.id]);
+    let file = IntervalFile::new(net_cone, DAYS, 0, vec![row.words()], points.to_vec());
+    let (ground, rows, _) = settled(&ledger, &file);
+    assert_eq!(ground, 0);
+    rows[0]
+}
+
+/// The scheduled kW, seen as the bonus of an energy-only plant that gives all it can.
+fn scheduled(points: &[[u32; 2]], range: (u32, u32), online: u32, lmp: i32) -> u64 {
+    let row = Row {
+        id: 1,
+        kind: 4,
+        metered: 4_000_000,
+        minimum: range.0,
+        maximum: range.1,
+        online,
+        lmp,
+        count: points.len() as u32,
+        ..Row::default()
+    };
+    one_row(NET_CONE, row, points)[5]
+}
+
+fn curve_a() -> [[u32; 2]; 2] {
+    [point(1_000, 20_000), point(5_000, 100_000)]
+}
+
+#[test]
+fn schedule_on_curve_a() {
+    let range = (20_000, 110_000);
+    let cases = [
+        (999, 20_000),
+        (3_001, 60_020),
+        (5_000, 100_000),
+        (5_001, 110_000),
+    ];
+    for (lmp, kw) in cases {
+        assert_eq!(scheduled(&curve_a(), range, 1, lmp), kw, "LMP {lmp}");
+    }
+    assert_eq!(scheduled(&curve_a(), range, 0, 999), 0);
+}
+
+#[test]
+fn schedule_at_negative_prices() {
+    let points = [point(-300, 0), point(-293, 10)];
+    for online in [0, 1] {
+        assert_eq!(scheduled(&points, (0, 10), online, -299), 1);
+    }
+}
+
+#[test]
+fn prd_is_considered_from_a_point_with_kw() {
+    let points = [point(500, 0), point(2_000, 3_000)];
+    let row = Row {
+        id: 1,
+        kind: 3,
+        committed: 7,
+        metered: 9,
+        lmp: 1_999,
+        count: 2,
+        ..Row::default()
+    };
+    assert_eq!(one_row(NET_CONE, row, &points), [0; 8]);
+    let reached = Row { lmp: 2_000, ..row };
+    assert_eq!(
+        one_row(NET_CONE, reached, &points),
+        [7, 9, 0, 0, 0, 2, 0, 0]
+    );
+}
+
+#[test]
+fn a_charge_is_rounded_down() {
+    for (short, cents) in [(986, 0), (987, 1)] {
+        let row = Row {
+            id: 1,
+            kind: 1,
+            committed: short,
+            ..Row::default()
+        };
+        assert_eq!(
+            one_row(1, row, &[]),
+            [short.into(), 0, 0, 0, short.into(), 0, cents, 0]
+        );
+    }
+}
+
+/// A ledger with one account of 1 kW and so many cents charged, all carried.
+fn charged_ledger(charged: u64) -> Ledger {
+    let mut ledger = Ledger::new(NET_CONE, DAYS, &[1]);
+    ledger.accounts[0] = [1, 1, charged, 0];
+    ledger.words[4] = charged;
+    ledger
+}
+
+#[test]
+fn a_charge_is_cut_to_the_limit() {
+    let row = Row {
+        id: 1,
+        kind: 1,
+        committed: 1,
+        ..Row::default()
+    };
+    let file = IntervalFile::new(NET_CONE, DAYS, 0, vec![row.words()], vec![]);
+    for (charged, charge) in [(0, 30), (16_395, 30), (16_400, 25), (16_425, 0)] {
+        let (ground, rows, interval) = settled(&charged_ledger(charged), &file);
+        assert_eq!(ground, 0);
+        assert_eq!(rows[0][6], charge);
+        assert_eq!(interval[3], charged + charge);
+    }
+    assert_eq!(settled(&charged_ledger(16_426), &file).0, 6);
+}
+
+#[test]
+fn a_pool_is_shared_by_bonus() {
+    let mut ledger = Ledger::new(NET_CONE, DAYS, &[1, 2, 3]);
+    ledger.accounts[2] = [3, 4_000_000, 557_628, 0];
+    ledger.words[4] = 557_628;
+    let row = |id, metered| Row {
+        id,
+        kind: 1,
+        metered,
+        ..Row::default()
+    };
+    let rows = vec![row(1, 30_000).words(), row(2, 10_001).words()];
+    let file = IntervalFile::new(NET_CONE, DAYS, 0, rows, vec![]);
+    let (ground, rows, interval) = settled(&ledger, &file);
+    assert_eq!(ground, 0);
+    assert_eq!((rows[0][7], rows[1][7]), (418_210, 139_417));
+    assert_eq!(interval, [0, 0, 557_627, 1, 40_001, 40_001, 0, 2]);
+}
+
+#[test]
+fn expected_is_rounded_down_once() {
+    let row = |id, committed, metered| Row {
+        id,
+        committed,
+        metered,
+        ..Row::default()
+    };
+    let rows = vec![
+        row(1, 100_000, 80_000).words(),
+        row(2, 50_000, 50_001).words(),
+    ];
+    let file = IntervalFile::new(NET_CONE, DAYS, 0, rows, vec![]);
+    let (ground, rows, interval) = settled(&Ledger::new(NET_CONE, DAYS, &[1, 2]), &file);
+    assert_eq!(ground, 0);
+    assert_eq!(rows[0][0], 86_667);
+    assert_eq!(
+        (interval[0], interval[5], interval[6]),
+        (866_673, 130_001, 150_000)
+    );
+}
+
+/// The opening of the trade's example.
+fn example_opening() -> Opening {
+    Opening::new(NET_CONE, DAYS, &[11, 12, 13, 14])
+}
+
+/// The four rows of the trade's example, in any interval.
+fn example_file(interval: u32) -> IntervalFile {
+    let rows = [
+        Row {
+            id: 11,
+            committed: 100_000,
+            owned: 110_000,
+            metered: 60_000,
+            planned: 10_000,
+            maximum: 110_000,
+            minimum: 20_000,
+            online: 1,
+            lmp: 3_000,
+            count: 2,
+            ..Row::default()
+        },
+        Row {
+            id: 12,
+            committed: 50_000,
+            owned: 60_000,
+            metered: 20_000,
+            adjustment: 5_000,
+            forced: 35_000,
+            maximum: 25_000,
+            minimum: 10_000,
+            online: 1,
+            lmp: 6_001,
+            first: 2,
+            count: 2,
+            ..Row::default()
+        },
+        Row {
+            id: 13,
+            kind: 4,
+            owned: 40_000,
+            metered: 35_000,
+            maximum: 40_000,
+            online: 1,
+            lmp: 3_000,
+            first: 4,
+            count: 2,
+            ..Row::default()
+        },
+        Row {
+            id: 14,
+            kind: 1,
+            committed: 5_000,
+            metered: 15_001,
+            ..Row::default()
+        },
+    ];
+    let mut points = curve_a().to_vec();
+    points.extend([point(1_000, 10_000), point(6_000, 50_000)]);
+    points.extend([point(0, 0), point(4_000, 40_000)]);
+    let rows = rows.iter().map(Row::words).collect();
+    IntervalFile::new(NET_CONE, DAYS, interval, rows, points)
+}
+
+const EXAMPLE_LINES: &str = "\
+1000,11,86667,60000,10000,26667,0,0,0,0
+1000,12,43333,25000,0,0,18333,0,557628,0
+1000,13,0,35000,0,0,0,30000,0,418210
+1000,14,5000,15001,0,0,0,10001,0,139417
+pool,1000,866673,557628,557627,1
+";
+
+/// The example's ledger as opening leaves it.
+fn example_ledger() -> Vec<u8> {
+    let mut ledger = vec![0xaa; 64 + 32 * 4];
+    assert_eq!(open(&example_opening().bytes(), &mut ledger), 0);
+    assert_eq!(
+        ledger,
+        Ledger::new(NET_CONE, DAYS, &[11, 12, 13, 14]).bytes()
+    );
+    ledger
+}
+
+#[test]
+fn the_last_interval_and_the_same_file_again() {
+    let mut ledger = example_ledger();
+    let mut result = [0xaa; 320];
+    let after = example_file(105_120).bytes();
+    assert_eq!(settle(&mut ledger, &after, &mut result), 9);
+    assert_eq!(result, [0xaa; 320]);
+    let last = example_file(105_119).bytes();
+    assert_eq!(settle(&mut ledger, &last, &mut result), 0);
+    assert_eq!(long_at(&ledger, 3), Some(105_120));
+    let kept = (ledger.clone(), result);
+    assert_eq!(settle(&mut ledger, &last, &mut result), 10);
+    assert_eq!((ledger, result), kept);
+}
+
+#[test]
+fn four_rows_need_320_result_bytes() {
+    let file = example_file(1_000).bytes();
+    let mut ledger = example_ledger();
+    assert_eq!(settle(&mut ledger, &file, &mut [0; 319]), 15);
+    assert_eq!(ledger, example_ledger());
+    assert_eq!(settle(&mut ledger, &file, &mut [0; 320]), 0);
+    let mut long = [0xaa; 321];
+    assert_eq!(settle(&mut example_ledger(), &file, &mut long), 0);
+    assert_eq!(long[320], 0xaa);
+}
+
+#[test]
+fn the_example_leaves_these_accounts() {
+    let mut ledger = example_ledger();
+    let file = example_file(1_000).bytes();
+    assert_eq!(settle(&mut ledger, &file, &mut [0; 320]), 0);
+    let mut expected = Ledger::new(NET_CONE, DAYS, &[11, 12, 13, 14]);
+    expected.words[3] = 1_001;
+    expected.words[4] = 1;
+    expected.accounts = vec![
+        [11, 100_000, 0, 0],
+        [12, 50_000, 557_628, 0],
+        [13, 0, 0, 418_210],
+        [14, 5_000, 0, 139_417],
+    ];
+    assert_eq!(ledger, expected.bytes());
+}
+
+/// What the listing prints behind its heading.
+fn listed(stream: &[u8]) -> String {
+    let text = String::from_utf8(npalist(stream)).unwrap();
+    text.strip_prefix(HEADING)
+        .expect("the heading comes first")
+        .to_string()
+}
+
+/// Blocks, each behind its length.
+fn stream(blocks: &[&[u8]]) -> Vec<u8> {
+    let mut stream = Vec::new();
+    for block in blocks {
+        push_block(&mut stream, block);
+    }
+    stream
+}
+
+#[test]
+fn the_whole_listing() {
+    let input = stream(&[&example_opening().bytes(), &example_file(1_000).bytes()]);
+    let heading = "interval,id,expected,actual,outage,economic,shortfall,bonus,charge,credit\n";
+    let output = [heading, EXAMPLE_LINES].concat();
+    assert_eq!(npalist(&input), output.as_bytes());
+}
+
+#[test]
+fn a_listing_of_any_first_part_of_a_stream() {
+    let opening = stream(&[&example_opening().bytes()]);
+    let file = stream(&[&example_file(1_000).bytes()]);
+    let twice = [&opening[..], &file, &file].concat();
+    for end in 0..=twice.len() {
+        let first = opening.len() + file.len();
+        let expected = match end {
+            e if e < opening.len() => "cut,0\n".to_string(),
+            e if e == opening.len() => String::new(),
+            e if e < first => "cut,1\n".to_string(),
+            e if e == first => EXAMPLE_LINES.to_string(),
+            e if e < twice.len() => format!("{EXAMPLE_LINES}cut,2\n"),
+            _ => format!("{EXAMPLE_LINES}refused,2,10\n"),
+        };
+        assert_eq!(listed(&twice[..end]), expected, "{end} bytes");
+    }
+}
+
+#[test]
+fn a_listing_goes_on_after_a_refused_interval() {
+    let opening = example_opening().bytes();
+    let file = example_file(1_000).bytes();
+    let input = stream(&[&opening, &[], &example_file(105_120).bytes(), &file]);
+    assert_eq!(
+        listed(&input),
+        format!("refused,1,7\nrefused,2,9\n{EXAMPLE_LINES}")
+    );
+}
+
+#[test]
+fn a_listing_stops_after_a_refused_opening() {
+    let file = example_file(1_000).bytes();
+    assert_eq!(listed(&stream(&[&[], &file])), "refused,0,1\n");
+    let zero = Opening::new(0, DAYS, &[11]).bytes();
+    assert_eq!(listed(&stream(&[&zero, &file])), "refused,0,2\n");
+    let falling = Opening::new(NET_CONE, DAYS, &[12, 11]).bytes();
+    assert_eq!(listed(&stream(&[&falling, &file])), "refused,0,4\n");
+}
+
+#[test]
+fn a_listing_stops_after_a_length_over_the_limit() {
+    let opening = stream(&[&example_opening().bytes()]);
+    let file = stream(&[&example_file(1_000).bytes()]);
+    for (length, line) in [(4_096u32, "cut,0\n"), (4_097, "refused,0,1\n")] {
+        let input = [&length.to_le_bytes()[..], &[1; 50]].concat();
+        assert_eq!(listed(&input), line);
+    }
+    for (length, line) in [(49_152u32, "cut,1\n"), (49_153, "refused,1,7\n")] {
+        let input = [&opening[..], &length.to_le_bytes(), &file].concat();
+        assert_eq!(listed(&input), line);
+    }
+    let mut longest = example_file(1_000);
+    longest.length = 49_152;
+    let input = [&opening[..], &stream(&[&longest.bytes()])].concat();
+    assert_eq!(listed(&input), EXAMPLE_LINES);
+}
+
+#[test]
+fn the_largest_ledger_has_the_largest_credit() {
+    let ids: Vec<u32> = (1..=512).collect();
+    let mut ledger = Ledger::new(200_000, 366, &ids);
+    for account in &mut ledger.accounts {
+        account[1] = 4_000_000;
+        account[2] = 439_200_000_000;
+    }
+    ledger.accounts[100][3] = 224_870_400_000_000;
+    let row = Row {
+        id: 512,
+        kind: 2,
+        committed: 4_000_000,
+        ..Row::default()
+    };
+    let file = IntervalFile::new(200_000, 366, 0, vec![row.words()], vec![]);
+    let (ground, rows, _) = settled(&ledger, &file);
+    assert_eq!((ground, rows[0][4], rows[0][6]), (0, 4_000_000, 0));
+    ledger.accounts[100][3] += 1;
+    assert_eq!(settled(&ledger, &file).0, 6);
+}

@@ -1,0 +1,200 @@
+//! Random calls: no panic, nothing written on refusal, and a wide mix.
+
+use npa_tests::layout::{long_at, word_at};
+use npa_tests::random::{
+    long_open, long_settle, open_call, settle_call, stream, OpenCall, Rng, RunningYear, SettleCall,
+    Size, FULL, MIDDLE, SMALL,
+};
+use npa_tests::reference::{npalist, open, settle, HEADING};
+use std::collections::BTreeMap;
+
+/// Opens and checks which bytes changed; the answer.
+fn checked_open(call: &OpenCall) -> u32 {
+    let mut ledger = call.ledger.clone();
+    let ground = open(&call.block, &mut ledger);
+    assert!(ground <= 5);
+    if ground == 0 {
+        let end = 64 + 32 * long_at(&ledger, 5).unwrap() as usize;
+        assert_eq!(ledger[end..], call.ledger[end..]);
+    } else {
+        assert_eq!(ledger, call.ledger);
+    }
+    ground
+}
+
+/// Settles and checks which bytes changed; the answer and the result.
+fn checked_settle(call: &SettleCall) -> (u32, Vec<u8>) {
+    let mut ledger = call.ledger.clone();
+    let mut result = call.result.clone();
+    let ground = settle(&mut ledger, &call.file, &mut result);
+    assert!(ground == 0 || (6..=16).contains(&ground));
+    if ground == 0 {
+        let end = 64 + 32 * long_at(&ledger, 5).unwrap() as usize;
+        assert_eq!(ledger[end..], call.ledger[end..]);
+        let end = 64 + 64 * long_at(&result, 7).unwrap() as usize;
+        assert_eq!(result[end..], call.result[end..]);
+    } else {
+        assert_eq!((&ledger, &result), (&call.ledger, &call.result));
+    }
+    (ground, result)
+}
+
+/// How many cases of each ground there are among so many calls.
+fn grounds(seed: u64, size: &Size, calls: usize) -> BTreeMap<u32, usize> {
+    let mut rng = Rng::new(seed);
+    let mut grounds = BTreeMap::new();
+    for _ in 0..calls {
+        let ground = checked_open(&open_call(&mut rng, size));
+        *grounds.entry(ground).or_default() += 1;
+        let (ground, _) = checked_settle(&settle_call(&mut rng, size));
+        *grounds.entry(ground).or_default() += 1;
+    }
+    grounds
+}
+
+#[test]
+fn every_ground_is_met_in_every_size() {
+    for (size, calls) in [(SMALL, 4_000), (MIDDLE, 2_000), (FULL, 1_000)] {
+        let grounds = grounds(5, &size, calls);
+        for ground in 0..=16 {
+            assert!(grounds.contains_key(&ground), "{ground} in {size:?}");
+        }
+        assert!(5 * grounds[&0] > 2 * 2 * calls, "enough accepted");
+    }
+}
+
+#[test]
+fn lengths_at_the_limits() {
+    let mut rng = Rng::new(6);
+    let opened: Vec<u32> = (0..60)
+        .map(|_| checked_open(&long_open(&mut rng, &FULL)))
+        .collect();
+    assert!(opened.contains(&0) && opened.contains(&1));
+    let settled: Vec<u32> = (0..60)
+        .map(|_| checked_settle(&long_settle(&mut rng, &FULL)).0)
+        .collect();
+    assert!(settled.contains(&0) && settled.contains(&7));
+}
+
+#[test]
+fn small_cases_stay_small() {
+    let mut rng = Rng::new(7);
+    let mut year = RunningYear::open(&mut rng, &SMALL);
+    for index in 0..5_000 {
+        let opening = open_call(&mut rng, &SMALL);
+        assert!(opening.block.len() < 1_500 && opening.ledger.len() < 1_500);
+        assert!(word_at(&opening.block, 12).unwrap_or(0) <= 600);
+        let call = if index % 2 == 0 {
+            settle_call(&mut rng, &SMALL)
+        } else {
+            year.next_call(&mut rng, &SMALL)
+        };
+        let lengths = [call.ledger.len(), call.file.len(), call.result.len()];
+        assert!(lengths.iter().all(|length| *length < 1_500));
+        assert!(long_at(&call.ledger, 5).unwrap_or(0) <= 600);
+        assert!(word_at(&call.file, 24).unwrap_or(0) <= 600);
+        assert!(word_at(&call.file, 32).unwrap_or(0) <= 600);
+    }
+}
+
+/// Names of what an accepted call shows.
+fn features(call: &SettleCall, result: &[u8]) -> Vec<&'static str> {
+    let mut seen = Vec::new();
+    let mut note = |there: bool, name| {
+        if there {
+            seen.push(name);
+        }
+    };
+    let at = |offset: usize| word_at(&call.file, offset).unwrap();
+    let interval = |index: usize| long_at(result, index).unwrap();
+    let (net_cone, days) = (u64::from(at(8)), u64::from(at(12)));
+    let imports = at(20) as i32;
+    note(interval(0) > 0 && interval(0) < 1_000_000, "ratio inside");
+    note(interval(0) == 1_000_000, "ratio at its end");
+    note(interval(6) == 0, "no denominator");
+    note(at(16) == 1 && imports > 0, "imports counted");
+    note(at(16) == 1 && imports < 0, "imports negative");
+    note(at(16) == 0 && imports > 0, "imports not counted");
+    note(interval(1) > 0 && interval(2) > 0, "charges and credits");
+    note(interval(1) > 0 && interval(4) == 0, "charges all carried");
+    note(interval(3) > 0 && interval(2) > 0, "a rest carried");
+    note(at(32) == 0 && at(36) == 40, "no points at 40");
+    note(
+        at(32) == 0 && at(36) as usize == call.file.len(),
+        "no points at the end",
+    );
+    note(at(32) > 0 && at(36) < at(28), "points first");
+    note(at(28) % 4 != 0, "unaligned rows");
+    for row in 0..at(24) as usize {
+        let word = |index: usize| at(at(28) as usize + 56 * row + 4 * index);
+        let figure = |index: usize| long_at(result, 8 + 8 * row + index).unwrap();
+        let (kind, count) = (word(1), word(13));
+        let names = ["kind 0", "kind 1", "kind 2", "kind 3", "kind 4"];
+        note(true, names[kind as usize]);
+        let all_zero = (0..8).all(|index| figure(index) == 0);
+        note(kind == 3 && !all_zero, "PRD considered");
+        note(kind == 3 && all_zero && word(2) > 0, "PRD not considered");
+        note(kind == 0 && figure(3) > 0, "economic");
+        note(kind == 0 && figure(3) > 0 && figure(4) > 0, "still short");
+        note(kind == 0 && figure(2) > 0 && figure(4) > 0, "outage, short");
+        note(kind == 0 && figure(5) > 0, "bonus of kind 0");
+        note(kind == 4 && figure(5) > 0, "bonus of kind 4");
+        note(kind == 2 && figure(5) > 0, "bonus of kind 2");
+        note(kind == 0 && figure(0) < u64::from(word(2)), "expected less");
+        note(word(4) as i32 <= 0 && figure(1) == 0, "no actual");
+        note(count == 0 && word(12) > 2_048, "any first point");
+        note(word(10) == 0 && count > 0 && kind == 0, "offline");
+        let full = figure(4) * net_cone * days / 360_000;
+        note(figure(6) < full && figure(6) > 0, "charge cut");
+        note(figure(6) == 0 && full > 0, "charge cut to nothing");
+        for other in 0..row {
+            let theirs = |index: usize| at(at(28) as usize + 56 * other + 4 * index);
+            let same = count > 0 && theirs(13) > 0 && theirs(12) == word(12);
+            note(same, "shared points");
+        }
+    }
+    seen
+}
+
+#[test]
+fn accepted_small_cases_show_every_rule() {
+    let mut rng = Rng::new(8);
+    let mut counts: BTreeMap<&str, usize> = BTreeMap::new();
+    for _ in 0..6_000 {
+        let call = settle_call(&mut rng, &SMALL);
+        let (ground, result) = checked_settle(&call);
+        if ground == 0 {
+            for name in features(&call, &result) {
+                *counts.entry(name).or_default() += 1;
+            }
+        }
+    }
+    assert_eq!(counts.len(), 33, "{counts:?}");
+    assert!(counts.values().all(|count| *count >= 15), "{counts:?}");
+}
+
+#[test]
+fn streams_are_listed_to_some_end() {
+    let mut rng = Rng::new(9);
+    let (mut cuts, mut refusals, mut pools) = (0, 0, 0);
+    for _ in 0..600 {
+        let text = String::from_utf8(npalist(&stream(&mut rng, &SMALL, 4))).unwrap();
+        let lines = text.strip_prefix(HEADING).unwrap();
+        cuts += lines.matches("cut,").count();
+        refusals += lines.matches("refused,").count();
+        pools += lines.matches("pool,").count();
+    }
+    assert!(cuts > 50 && refusals > 100 && pools > 500);
+}
+
+#[test]
+#[ignore = "a long run"]
+fn many_random_calls() {
+    for (size, calls) in [(SMALL, 200_000), (MIDDLE, 50_000), (FULL, 10_000)] {
+        println!("{:?}", grounds(10, &size, calls));
+    }
+    let mut rng = Rng::new(11);
+    for _ in 0..20_000 {
+        npalist(&stream(&mut rng, &SMALL, 6));
+    }
+}
