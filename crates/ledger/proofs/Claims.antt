@@ -31,7 +31,7 @@ use Rattle.ledger.proofs.Step.{Kept, good-block, accept-kept, opened-fi
 kept : (block ledger : List ℕ) → Bytes block → opening block ledger .ground ≡ 0 → (calls : List Call)
     → Kept block (afterCalls (newYear (opening block ledger .ledger)) calls)
 kept block ledger bytes e calls =
-    let s = block-accepted block ledger e in
+    let s = block-accepted block ledger (opening-none block ledger e) in
     let a = opening-accepts block ledger (opening-none block ledger e) in
     let start = subst (λ a. Kept block (newYear (a .ledger))) (sym a) (opened-kept block ledger s bytes) in
     after-calls (Kept block) (λ y c k. accept-kept block bytes (good-block block ledger s) y k c) (newYear (opening block ledger .ledger)) calls start
@@ -52,7 +52,7 @@ written-held ws b fit = record { read-back = words-back 8 ws (drop (8 * length w
 pub opening-reads-back : OpeningReadsBack
 unfolding OpeningReadsBack
 opening-reads-back block ledger bytes e =
-    let s = block-accepted block ledger e in
+    let s = block-accepted block ledger (opening-none block ledger e) in
     let held = written-held (ledgerWords (openedLedger block)) ledger (ledger-words-fit (openedLedger block) (opened-fits block ledger s bytes)) in
     subst (λ a. Holds (ledgerWords (openedLedger block)) ledger (a .ledger)) (sym (opening-accepts block ledger (opening-none block ledger e))) held
 
@@ -132,7 +132,7 @@ opening-refusals block ledger = by (eqb g 0) refl
     by : (t : Bool) → eqb g 0 ≡ t → OpeningAnswers ledger (opening block ledger)
     by true e =
         let a = opening-accepts block ledger (eqb-true g 0 e) in
-        let s = block-accepted block ledger (ap (λ a. a .ground) a) in
+        let s = block-accepted block ledger (eqb-true g 0 e) in
         subst (OpeningAnswers ledger) (sym a)
         (record { ground = omega arith; refused = λ h. absurd (omega arith); length-kept = length-ledger (openedLedger block) ledger (opened-room block ledger s) })
     by false e =

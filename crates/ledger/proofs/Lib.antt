@@ -11,3 +11,5 @@ pub mod Calls
 pub mod Books
 pub mod Step
 pub mod Claims
+pub mod OpeningTests
+pub mod OpeningWrites

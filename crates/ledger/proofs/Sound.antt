@@ -13,9 +13,9 @@ use Rattle.words.proofs.Tests.{facts, not-outside}
 use Rattle.words.proofs.Lists.{none-passes}
 use Rattle.words.proofs.Words.{length-entries}
 use Rattle.words.proofs.Grounds.{none-applies}
-use Rattle.reading.specs.Block.{mostIds, Terms, blockOf, termsOutside, idsMisplaced, idsOutOfOrder}
+use Rattle.reading.specs.Block.{blockHeaderBytes, mostIds, idBytes, Terms, blockOf, notABlock, termsOutside, idsMisplaced, idsOutOfOrder}
 use Rattle.reading.specs.Interval.{mostKilowatts, mostRows, Row, headerOf, rowsOf, headerOutside, tablesMisplaced, rowOutside}
-use Rattle.reading.proofs.Bounds.{ids-few, HeaderIn, header-in, rows-few, length-rows, RowIn, row-in}
+use Rattle.reading.proofs.Bounds.{block-has-header, ids-few, ids-placed, HeaderIn, header-in, rows-few, length-rows, RowIn, row-in}
 use Rattle.assessment.specs.Assessment.{Account, limit, pool}
 use Rattle.ledger.specs.Ledger.{ledgerHeaderBytes, accountBytes, mostCents, mostCredited, Ledger, ledgerBytes, accountAt, accountCount, ledgerOf, idsIn, accountOutside, doesNotClose, notALedger}
 use Rattle.ledger.specs.Opening.{OpeningAnswer, ledgerTooShort, openingGrounds, opening}
@@ -31,9 +31,11 @@ ground-zero g ground taken refused same e = by (eqb g 0) refl e
 
 -- a block and a ledger buffer that opening accepts
 pub record BlockAccepted (block ledger : List ℕ) : Type 0 where
+  pub header : blockHeaderBytes ≤ length block
   pub terms : termsOutside (blockOf block .terms) ≡ false
   pub some : 1 ≤ blockOf block .idCount
   pub few : blockOf block .idCount ≤ mostIds
+  pub placed : blockOf block .idsOffset + idBytes * blockOf block .idCount ≤ length block
   pub ids : idsOutOfOrder (blockOf block .ids) ≡ false
   pub room : ledgerBytes (blockOf block .idCount) ≤ length ledger
 
@@ -41,15 +43,18 @@ pub opening-none : (block ledger : List ℕ) → opening block ledger .ground �
 unfolding opening
 opening-none block ledger e = ground-zero {A = OpeningAnswer} (answered (openingGrounds block ledger)) (λ a. a .ground) _ _ refl e
 
-pub block-accepted : (block ledger : List ℕ) → opening block ledger .ground ≡ 0 → BlockAccepted block ledger
+pub block-accepted : (block ledger : List ℕ) → answered (openingGrounds block ledger) ≡ 0 → BlockAccepted block ledger
 unfolding openingGrounds any ledgerTooShort
 block-accepted block ledger e =
-    let none = none-applies (openingGrounds block ledger) refl (opening-none block ledger e) in
-    let placed : idsMisplaced block ≡ false = search facts depth 12 in
+    let none = none-applies (openingGrounds block ledger) refl e in
+    let g1 : notABlock block ≡ false = search facts depth 12 in
+    let g3 : idsMisplaced block ≡ false = search facts depth 12 in
     record {
+      header = block-has-header block g1;
       terms = search facts depth 12;
-      some = ids-few block placed .0;
-      few = ids-few block placed .1;
+      some = ids-few block g3 .0;
+      few = ids-few block g3 .1;
+      placed = ids-placed block g3;
       ids = search facts depth 12;
       room = search facts depth 12;
     }

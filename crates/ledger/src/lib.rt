@@ -1,1 +1,4 @@
 // The ledger of a delivery year: opening it, and settling interval files into it.
+
+pub mod layout;
+pub mod opening;

@@ -1,5 +1,5 @@
 -- What is known of terms, ids, a header and a row that no ground refuses.
-use Prim.Native.Nat.{ℕ, _*_, _<_, _≤_}
+use Prim.Native.Nat.{ℕ, _+_, _*_, _<_, _≤_}
 use mathlib.Core.Path.{_≡_}
 use mathlib.Core.Logic.{⊎-elim}
 use mathlib.Core.List.{List}
@@ -11,11 +11,11 @@ use lib.Dec.{eqb}
 use borrow.Author.Tests.{eqb-true}
 use Rattle.words.specs.Lists.{any, risesAbove, rises}
 use Rattle.words.specs.Words.{word32}
-use Rattle.words.specs.Grounds.{outside, beyond}
+use Rattle.words.specs.Grounds.{outside, beyond, liesFrom}
 use Rattle.words.proofs.Tests.{facts, either, not-outside}
 use Rattle.words.proofs.Lists.{rises-from-zero}
 use Rattle.words.proofs.Words.{length-entries}
-use Rattle.reading.specs.Block.{mostNetCone, leapYear, mostIds, idBytes, Terms, blockOf, termsOutside, idsMisplaced, idsOutOfOrder}
+use Rattle.reading.specs.Block.{blockHeaderBytes, mostBlockBytes, mostNetCone, leapYear, mostIds, idBytes, Terms, blockOf, notABlock, termsOutside, idsMisplaced, idsOutOfOrder}
 use Rattle.reading.specs.Interval.{intervalsPerDay, rowBytes, mostImports, mostRows, mostKilowatts, Header, Row, headerOf, rowOf, rowsOf, headerOutside, tablesMisplaced, rowOutside}
 
 -- terms that ground 2 does not refuse
@@ -89,3 +89,15 @@ row-in r e = record {
   metered = search facts depth 20;
   adjustment = search facts depth 20;
 }
+
+-- a block that ground 1 does not refuse has its five words
+pub block-has-header : (b : List ℕ) → notABlock b ≡ false → blockHeaderBytes ≤ length b
+unfolding notABlock
+block-has-header b e =
+    let range : outside blockHeaderBytes mostBlockBytes (length b) ≡ false = search facts in
+    not-outside blockHeaderBytes mostBlockBytes (length b) range .0
+
+-- ids that ground 3 does not refuse lie within the block
+pub ids-placed : (b : List ℕ) → idsMisplaced b ≡ false → blockOf b .idsOffset + idBytes * blockOf b .idCount ≤ length b
+unfolding idsMisplaced liesFrom
+ids-placed b e = search facts depth 9

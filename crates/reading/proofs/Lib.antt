@@ -1,3 +1,5 @@
 pub mod Computing
 pub mod Figures
 pub mod Bounds
+pub mod Order
+pub mod BlockTests

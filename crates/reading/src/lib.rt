@@ -1,1 +1,3 @@
 // What an opening block and an interval file say.
+
+pub mod block;

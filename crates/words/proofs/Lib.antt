@@ -4,3 +4,5 @@ pub mod Tests
 pub mod Lists
 pub mod Words
 pub mod Grounds
+pub mod Access
+pub mod ReadBack

@@ -1,9 +1,10 @@
 -- What a test says where it is known. `facts` holds what `search` reads off a chain of tests.
 use Prim.Native.Nat.{ℕ, _≤_}
-use mathlib.Core.Path.{_≡_, refl}
+use mathlib.Core.Path.{_≡_, refl, sym}
 use mathlib.Core.Logic.{_⊎_, inl, inr}
-use mathlib.Core.Bool.{Bool, true, false, _||_, _&&_, true≢false, false≢true}
-use borrow.Author.Tests.{ltb-false, leb-false, ltb-true, leb-true, eqb-true, not-false, not-true}
+use mathlib.Core.Bool.{Bool, true, false, not, _||_, _&&_, true≢false, false≢true}
+use lib.Dec.{ltb, leb}
+use borrow.Author.Tests.{ltb-false, leb-false, ltb-true, leb-true, eqb-true, not-false, not-true, lt-ltb, le-ltb}
 use Rattle.words.specs.Grounds.{outside}
 
 -- an alternative that fails
@@ -35,3 +36,11 @@ pub ruleset facts = (not-first, not-second, first-holds, second-holds, not-false
 pub not-outside : (low high x : ℕ) → outside low high x ≡ false → (low ≤ x) × (x ≤ high)
 unfolding outside
 not-outside low high x e = (search facts, search facts)
+
+-- one number is not at or below another just where that one is below it
+pub not-leb : (a b : ℕ) → not (leb a b) ≡ ltb b a
+not-leb a b = by (leb a b) refl
+  where
+    by : (t : Bool) → leb a b ≡ t → not t ≡ ltb b a
+    by true e = sym (le-ltb b a (leb-true a b e))
+    by false e = sym (lt-ltb b a (leb-false a b e))

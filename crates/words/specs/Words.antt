@@ -2,7 +2,7 @@
 use Prim.Native.Nat.{ℕ, zero, suc, _+_, _*_, _/_, _%_, _^_, _<_}
 use mathlib.Core.List.{List, [], _∷_, _++_}
 use mathlib.Core.Bool.{cond}
-use lib.ListN.{length, drop, getD}
+use lib.ListN.{length, take, drop, getD}
 use lib.IntN.{ℤ, pos, _-ℤ_}
 use lib.Dec.{ltb}
 
@@ -50,3 +50,7 @@ bytesOfWords n (w ∷ ws) = bytesOf n w ++ bytesOfWords n ws
 -- a buffer with these 64-bit words at its front, and the bytes beyond them as they were
 unfoldable pub written : List ℕ → List ℕ → List ℕ
 written ws b = bytesOfWords 8 ws ++ drop (8 * length ws) b
+
+-- the same from a byte offset on, and the bytes before it as they were
+unfoldable pub writtenAt : ℕ → List ℕ → List ℕ → List ℕ
+writtenAt at ws b = take at b ++ written ws (drop at b)

@@ -1,1 +1,99 @@
 // Little-endian words in byte buffers, below the three layers.
+
+ghost use mathlib.Core.Path.{_≡_};
+ghost use mathlib.Core.List.{_∷_, []};
+ghost use Prim.Native.Nat.{_+_, _*_, _≤_, _<_, _^_};
+ghost use lib.ListN.{length};
+ghost use lib.Signed.{mag};
+ghost use Rattle.words.specs.Words.{number, numberAt, signed as signedOf, entries, written, writtenAt};
+
+fn wide(x: u8) -> u64
+    ensures { λ r. ⌜ r ≡ x ⌝ }
+    ensures { λ r. ⌜ r < 256 ⌝ }
+{
+    x as u64
+}
+
+fn word16(b: &[u8], at: usize) -> u64
+    requires { ⌜ at + 2 ≤ length (now b) ⌝ }
+    ensures { λ r. ⌜ r ≡ numberAt 2 (now (b .entry)) at ⌝ }
+    ensures { λ r. ⌜ r < 65536 ⌝ }
+{
+    wide(b[at]) + 256 * wide(b[at + 1])
+}
+
+// The 32-bit word at a byte offset.
+pub fn word32(b: &[u8], at: usize) -> u64
+    requires { ⌜ at + 4 ≤ length (now b) ⌝ }
+    ensures { λ r. ⌜ r ≡ numberAt 4 (now (b .entry)) at ⌝ }
+    ensures { λ r. ⌜ r < 4294967296 ⌝ }
+{
+    word16(b, at) + 65536 * word16(b, at + 2)
+}
+
+// The 64-bit word at a byte offset.
+pub fn word64(b: &[u8], at: usize) -> u64
+    requires { ⌜ at + 8 ≤ length (now b) ⌝ }
+    ensures { λ r. ⌜ r ≡ numberAt 8 (now (b .entry)) at ⌝ }
+{
+    word32(b, at) + 4294967296 * word32(b, at + 4)
+}
+
+// A 32-bit word as a signed number.
+pub fn signed(w: u64) -> i64
+    requires { ⌜ w < 4294967296 ⌝ }
+    ensures { λ r. ⌜ r ≡ signedOf w ⌝ }
+    ensures { λ r. ⌜ mag r < 2 ^ 31 ⌝ }
+{
+    if w < 0x8000_0000 {
+        w as i64
+    } else {
+        (w as i64) - 0x1_0000_0000
+    }
+}
+
+// Writes one 64-bit word at a byte offset.
+pub fn put64(b: &mut [u8], at: usize, v: u64)
+    requires { ⌜ at + 8 ≤ length (now b) ⌝ }
+    ensures { λ _. ⌜ now (b .exit) ≡ writtenAt at (v ∷ []) (now (b .entry)) ⌝ }
+{
+    let v1 = v / 256;
+    let v2 = v1 / 256;
+    let v3 = v2 / 256;
+    let v4 = v3 / 256;
+    let v5 = v4 / 256;
+    let v6 = v5 / 256;
+    let v7 = v6 / 256;
+    b[at] = (v % 256) as u8;
+    b[at + 1] = (v1 % 256) as u8;
+    b[at + 2] = (v2 % 256) as u8;
+    b[at + 3] = (v3 % 256) as u8;
+    b[at + 4] = (v4 % 256) as u8;
+    b[at + 5] = (v5 % 256) as u8;
+    b[at + 6] = (v6 % 256) as u8;
+    b[at + 7] = (v7 % 256) as u8;
+}
+
+// Reads all of `s` from the front of `b`, a word for each element.
+pub fn load_words(b: &[u8], s: &mut [u64])
+    requires { ⌜ 8 * length (now s) ≤ length (now b) ⌝ }
+    ensures { λ _. ⌜ now (s .exit) ≡ entries 8 (number 8) (length (now (s .entry))) (now (b .entry)) ⌝ }
+{
+    let mut i = 0;
+    while i < s.len() {
+        s[i] = word64(b, 8 * i);
+        i += 1;
+    }
+}
+
+// Writes all of `s` to the front of `b`.
+pub fn store_words(s: &[u64], b: &mut [u8])
+    requires { ⌜ 8 * length (now s) ≤ length (now b) ⌝ }
+    ensures { λ _. ⌜ now (b .exit) ≡ written (now (s .entry)) (now (b .entry)) ⌝ }
+{
+    let mut i = 0;
+    while i < s.len() {
+        put64(b, 8 * i, s[i]);
+        i += 1;
+    }
+}

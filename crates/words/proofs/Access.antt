@@ -1,0 +1,186 @@
+-- Laws between the definitions of words and the code that reads and writes them, over the width and the place.
+use Prim.Native.Nat.{ℕ, zero, suc, _+_, _-_, _*_, _^_, _≤_, _<_}
+use mathlib.Core.Path.{_≡_, refl, sym, ap, ap₂, _∙_}
+use mathlib.Core.List.{List, [], _∷_, _++_, append-assoc, append-nil}
+use native.Mathlib.Nat.{add-suc, suc-add, add-zero, zero-add, pow-succ', mul-assoc}
+use native.Mathlib.Numerals.{add-one}
+use native.Mathlib.Omega.{arith}
+use borrow.Author.Tests.{lt-ltb}
+use lib.ListN.{length, take, drop, getD, set, length-append, length-drop, take-append-drop, drop-of-length-le}
+use lib.Seq.{drop-drop, sets, sets-eq, length-take-le, take-at, drop-at, drop-cons, set-at}
+use lib.IntN.{pos, negsuc, _-ℤ_}
+use Rattle.words.specs.Words.{number, bytesOf, numberAt, entries, bytesOfWords, written, writtenAt}
+use Rattle.words.proofs.Words.{length-bytesOf, length-entries, length-bytesOfWords, length-written}
+
+-- no bytes hold 0
+number-nil : (n : ℕ) → number n [] ≡ 0
+unfolding number
+number-nil zero = refl
+number-nil (suc n) = refl
+
+-- a number's first byte, and the rest of it
+pub first-byte : (n : ℕ) (b : List ℕ) (at : ℕ) → numberAt (suc n) b at ≡ getD b at 0 + 256 * numberAt n b (suc at)
+unfolding numberAt number
+first-byte n [] zero = omega (arith, number-nil n)
+first-byte n [] (suc at) = omega (arith, number-nil n)
+first-byte n (x ∷ b) zero = refl
+first-byte n (x ∷ b) (suc at) = first-byte n b at
+
+-- a number of m + n bytes is one of m and one of n
+pub split-number : (m n : ℕ) (b : List ℕ) (at : ℕ) → numberAt (m + n) b at ≡ numberAt m b at + 256 ^ m * numberAt n b (at + m)
+split-number zero n b at = rw (zero-add n, add-zero at) (unfold numberAt number in omega arith)
+split-number (suc m) n b at =
+    ap (λ k. numberAt k b at) (suc-add m n)
+    ∙ first-byte (m + n) b at
+    ∙ ap (λ rest. getD b at 0 + 256 * rest) (split-number m n b (suc at))
+    ∙ rw (first-byte m b at, pow-succ' 256 m, mul-assoc 256 (256 ^ m), suc-add at m, add-suc at m) (omega arith)
+
+-- a number of two bytes
+pub two-bytes : (b : List ℕ) (at : ℕ) → numberAt 2 b at ≡ getD b at 0 + 256 * getD b (at + 1) 0
+two-bytes b at =
+    let low = first-byte 1 b at in
+    let high = first-byte 0 b (suc at) in
+    let none : numberAt 0 b (suc (suc at)) ≡ 0 = unfold numberAt number in refl in
+    rw add-one (omega (arith, low, high, none))
+
+-- a number in a part of a buffer stands further on in the whole
+pub numberAt-drop : (n p : ℕ) (b : List ℕ) (at : ℕ) → numberAt n (drop p b) at ≡ numberAt n b (p + at)
+unfolding numberAt
+numberAt-drop n p b at = ap (number n) (drop-drop at p b)
+
+-- one word is the bytes of it
+pub one-word : (n v : ℕ) → bytesOfWords n (v ∷ []) ≡ bytesOf n v
+unfolding bytesOfWords
+one-word n v = append-nil (bytesOf n v)
+
+-- bytes stored one after the other are a word that has been written
+pub stored-word : (b : List ℕ) (at v : ℕ) → at + 8 ≤ length b → sets b at (bytesOf 8 v) ≡ writtenAt at (v ∷ []) b
+unfolding writtenAt written
+stored-word b at v h =
+    let n = length-bytesOf 8 v in
+    sets-eq (bytesOf 8 v) b at (omega (arith, n))
+    ∙ ap (λ k. take at b ++ bytesOf 8 v ++ drop (at + k) b) n
+    ∙ append-assoc (take at b) (bytesOf 8 v) (drop (at + 8) b)
+    ∙ ap (λ rest. take at b ++ (bytesOf 8 v ++ rest)) (sym (drop-drop 8 at b))
+    ∙ ap (λ front. take at b ++ (front ++ drop 8 (drop at b))) (sym (one-word 8 v))
+
+-- a number below 2^32, less 2^32
+pub less-2^32 : (x : ℕ) → x < 4294967296 → pos x -ℤ pos 4294967296 ≡ negsuc (4294967296 - suc x)
+less-2^32 x h = rw (lt-ltb x 4294967296 h)
+
+-- words of two lists, one list after the other
+pub words-append : (n : ℕ) (ws vs : List ℕ) → bytesOfWords n (ws ++ vs) ≡ bytesOfWords n ws ++ bytesOfWords n vs
+unfolding bytesOfWords
+words-append n [] vs = refl
+words-append n (w ∷ ws) vs = ap (λ rest. bytesOf n w ++ rest) (words-append n ws vs) ∙ sym (append-assoc (bytesOf n w) (bytesOfWords n ws) (bytesOfWords n vs))
+
+-- writing no words changes nothing
+pub write-none : (at : ℕ) (b : List ℕ) → writtenAt at [] b ≡ b
+unfolding writtenAt written bytesOfWords
+write-none at b = take-append-drop at b
+
+-- writing words behind words that have just been written
+pub write-more : (at : ℕ) (ws vs b : List ℕ) → at + 8 * length ws ≤ length b → writtenAt (at + 8 * length ws) vs (writtenAt at ws b) ≡ writtenAt at (ws ++ vs) b
+unfolding writtenAt written
+write-more at ws vs b h =
+    let front = take at b in
+    let new = bytesOfWords 8 ws in
+    let rest = drop (8 * length ws) (drop at b) in
+    let more = bytesOfWords 8 vs in
+    let n : length (front ++ new) ≡ at + 8 * length ws = length-append front new ∙ ap₂ _+_ (length-take-le at b (omega arith)) (length-bytesOfWords 8 ws) in
+    let whole : front ++ (new ++ rest) ≡ (front ++ new) ++ rest = sym (append-assoc front new rest) in
+    let left : take (at + 8 * length ws) (front ++ (new ++ rest)) ≡ front ++ new = ap (take (at + 8 * length ws)) whole ∙ take-at (front ++ new) rest (at + 8 * length ws) n in
+    let right : drop (at + 8 * length ws) (front ++ (new ++ rest)) ≡ rest = ap (drop (at + 8 * length ws)) whole ∙ drop-at (front ++ new) rest (at + 8 * length ws) n in
+    let far : drop (8 * length vs) rest ≡ drop (8 * length (ws ++ vs)) (drop at b)
+    = let all : 8 * length ws + 8 * length vs ≡ 8 * length (ws ++ vs) = omega (arith, length-append ws vs) in
+    drop-drop (8 * length vs) (8 * length ws) (drop at b) ∙ ap (λ k. drop k (drop at b)) all in
+    ap₂ (λ l r. l ++ (more ++ drop (8 * length vs) r)) left right
+    ∙ append-assoc front new (more ++ drop (8 * length vs) rest)
+    ∙ ap (λ t. front ++ t) (sym (append-assoc new more (drop (8 * length vs) rest)) ∙ ap₂ _++_ (sym (words-append 8 ws vs)) far)
+
+-- writing the first of some words, and then the others
+pub write-next : (at v : ℕ) (ws b : List ℕ) → at + 8 ≤ length b → writtenAt (at + 8) ws (writtenAt at (v ∷ []) b) ≡ writtenAt at (v ∷ ws) b
+write-next at v ws b h = write-more at (v ∷ []) ws b h
+
+-- writing at a place where there is room keeps the length
+pub length-writtenAt : (at : ℕ) (ws b : List ℕ) → at + 8 * length ws ≤ length b → length (writtenAt at ws b) ≡ length b
+unfolding writtenAt
+length-writtenAt at ws b h =
+    let n = length-drop at b in
+    omega (arith, length-append (take at b) (written ws (drop at b)), length-take-le at b (omega arith), length-written ws (drop at b) (omega arith), n)
+
+-- a table of one entry more
+pub entries-snoc : {A : Type 0} (size : ℕ) (read : List ℕ → A) (n : ℕ) (b : List ℕ)
+    → entries size read (suc n) b ≡ entries size read n b ++ (read (drop (size * n) b) ∷ [])
+unfolding entries
+entries-snoc size read zero b = let front : size * 0 ≡ 0 = omega arith in rw front
+entries-snoc size read (suc n) b =
+    let next : size + size * n ≡ size * suc n = omega arith in
+    ap (λ rest. read b ∷ rest) (entries-snoc size read n (drop size b) ∙ ap (λ d. entries size read n (drop size b) ++ (read d ∷ [])) (drop-drop (size * n) size b ∙ ap (λ k. drop k b) next))
+
+-- one turn of filling a list from a table, entry by entry
+pub fill-turn : (size : ℕ) (read : List ℕ → ℕ) (b s s₀ : List ℕ) (i v : ℕ) → s ≡ entries size read i b ++ drop i s₀ → i < length s₀ → v ≡ read (drop (size * i) b)
+    → set s i v ≡ entries size read (i + 1) b ++ drop (i + 1) s₀
+fill-turn size read b s s₀ i v e h q =
+    let here = drop-cons s₀ i 0 h in
+    ap (λ l. set l i v) (e ∙ ap (λ l. entries size read i b ++ l) here)
+    ∙ set-at (entries size read i b) (getD s₀ i 0) (drop (suc i) s₀) v i (length-entries size read i b)
+    ∙ sym (append-assoc (entries size read i b) (v ∷ []) (drop (suc i) s₀))
+    ∙ ap (λ w. (entries size read i b ++ (w ∷ [])) ++ drop (suc i) s₀) q
+    ∙ ap (λ l. l ++ drop (suc i) s₀) (sym (entries-snoc size read i b))
+    ∙ rw add-one
+
+-- a list filled to its end is the table
+pub fill-all : (size : ℕ) (read : List ℕ → ℕ) (b s s₀ : List ℕ) (i : ℕ) → s ≡ entries size read i b ++ drop i s₀ → i ≤ length s₀ → length s₀ ≤ i
+    → s ≡ entries size read (length s₀) b
+fill-all size read b s s₀ i e low high =
+    let end : i ≡ length s₀ = omega arith in
+    e ∙ ap (λ l. entries size read i b ++ l) (drop-of-length-le s₀ high) ∙ append-nil (entries size read i b) ∙ ap (λ k. entries size read k b) end
+
+-- one turn of writing a list, word by word
+pub store-turn : (s b b′ goal : List ℕ) (i : ℕ) → writtenAt (8 * i) (drop i s) b ≡ goal → b′ ≡ writtenAt (8 * i) (getD s i 0 ∷ []) b → i < length s → 8 * i + 8 ≤ length b
+    → writtenAt (8 * (i + 1)) (drop (i + 1) s) b′ ≡ goal
+store-turn s b b′ goal i left put h room =
+    let next : 8 * (i + 1) ≡ 8 * i + 8 = omega arith in
+    rw (next, add-one, put) (write-next (8 * i) (getD s i 0) (drop (suc i) s) b room ∙ ap (λ ws. writtenAt (8 * i) ws b) (sym (drop-cons s i 0 h)) ∙ left)
+
+-- where all words are written, nothing is left
+pub store-all : (s b goal : List ℕ) (i : ℕ) → writtenAt (8 * i) (drop i s) b ≡ goal → length s ≤ i → b ≡ goal
+store-all s b goal i left h = sym (write-none (8 * i) b) ∙ ap (λ ws. writtenAt (8 * i) ws b) (sym (drop-of-length-le s h)) ∙ left
+
+-- an entry of a table
+pub entry-at : {A : Type 0} (size : ℕ) (read : List ℕ → A) (n : ℕ) (b : List ℕ) (i : ℕ) (d : A) → i < n → getD (entries size read n b) i d ≡ read (drop (size * i) b)
+unfolding entries
+entry-at size read zero b i d h = absurd (omega arith)
+entry-at size read (suc n) b zero d h = let front : size * 0 ≡ 0 = omega arith in rw front
+entry-at size read (suc n) b (suc i) d h =
+    let next : size + size * i ≡ size * suc i = omega arith in
+    entry-at size read n (drop size b) i d (omega arith) ∙ ap read (drop-drop (size * i) size b ∙ ap (λ k. drop k b) next)
+
+-- one word more behind words that have just been written
+pub then-word : (at : ℕ) (ws b x y : List ℕ) (v : ℕ) → at + 8 * length ws ≤ length b → x ≡ writtenAt at ws b → y ≡ writtenAt (at + 8 * length ws) (v ∷ []) x
+    → y ≡ writtenAt at (ws ++ (v ∷ [])) b
+then-word at ws b x y v h before put = put ∙ ap (writtenAt (at + 8 * length ws) (v ∷ [])) before ∙ write-more at ws (v ∷ []) b h
+
+-- four words, one after the other
+pub four-words : (at : ℕ) (b x₁ x₂ x₃ x₄ : List ℕ) (v₁ v₂ v₃ v₄ : ℕ) → at + 32 ≤ length b
+    → x₁ ≡ writtenAt at (v₁ ∷ []) b → x₂ ≡ writtenAt (at + 8) (v₂ ∷ []) x₁ → x₃ ≡ writtenAt (at + 16) (v₃ ∷ []) x₂ → x₄ ≡ writtenAt (at + 24) (v₄ ∷ []) x₃
+    → x₄ ≡ writtenAt at (v₁ ∷ v₂ ∷ v₃ ∷ v₄ ∷ []) b
+four-words at b x₁ x₂ x₃ x₄ v₁ v₂ v₃ v₄ h e₁ e₂ e₃ e₄ =
+    let f₂ = then-word at (v₁ ∷ []) b x₁ x₂ v₂ (omega arith) e₁ e₂ in
+    let f₃ = then-word at (v₁ ∷ v₂ ∷ []) b x₂ x₃ v₃ (omega arith) f₂ e₃ in
+    then-word at (v₁ ∷ v₂ ∷ v₃ ∷ []) b x₃ x₄ v₄ (omega arith) f₃ e₄
+
+-- a written buffer is one written at 0
+pub written-at-zero : (ws b : List ℕ) → writtenAt 0 ws b ≡ written ws b
+unfolding writtenAt
+written-at-zero ws b = refl
+
+-- eight words at the front, four by four
+pub eight-words : (b x y : List ℕ) (v₁ v₂ v₃ v₄ v₅ v₆ v₇ v₈ : ℕ) → 64 ≤ length b → x ≡ writtenAt 0 (v₁ ∷ v₂ ∷ v₃ ∷ v₄ ∷ []) b
+    → y ≡ writtenAt 32 (v₅ ∷ v₆ ∷ v₇ ∷ v₈ ∷ []) x → y ≡ written (v₁ ∷ v₂ ∷ v₃ ∷ v₄ ∷ v₅ ∷ v₆ ∷ v₇ ∷ v₈ ∷ []) b
+eight-words b x y v₁ v₂ v₃ v₄ v₅ v₆ v₇ v₈ h low high =
+    high
+    ∙ ap (writtenAt 32 (v₅ ∷ v₆ ∷ v₇ ∷ v₈ ∷ [])) low
+    ∙ write-more 0 (v₁ ∷ v₂ ∷ v₃ ∷ v₄ ∷ []) (v₅ ∷ v₆ ∷ v₇ ∷ v₈ ∷ []) b (omega arith)
+    ∙ written-at-zero (v₁ ∷ v₂ ∷ v₃ ∷ v₄ ∷ v₅ ∷ v₆ ∷ v₇ ∷ v₈ ∷ []) b
