@@ -65,7 +65,7 @@ enum npa_answer {
 /* Opens a ledger for the delivery year that the opening block describes. */
 uint32_t npa_open(const uint8_t *block, size_t block_len, uint8_t *ledger, size_t ledger_len);
 
-/* Settles an interval file into a ledger, by the same conventions; the declaration stands ready for it. */
+/* Settles an interval file into a ledger, by the same conventions. Declared ahead: an archive may not have it yet. */
 uint32_t npa_settle(uint8_t *ledger, size_t ledger_len, const uint8_t *file, size_t file_len, uint8_t *result,
                     size_t result_len);
 
