@@ -1252,7 +1252,7 @@ fn refused_settle(rng: &mut Rng, size: &Size, case: SettleCase, ground: u32) -> 
 }
 
 /// Changes one to three bytes, if there are any.
-fn flip(rng: &mut Rng, buffer: &mut [u8]) {
+pub fn flip(rng: &mut Rng, buffer: &mut [u8]) {
     for _ in 0..1 + rng.below(3) {
         if !buffer.is_empty() {
             let index = rng.index(buffer.len());

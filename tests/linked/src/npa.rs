@@ -1,0 +1,18 @@
+//! The module's functions, as include/npa.h declares them.
+
+extern "C" {
+    fn npa_open(block: *const u8, block_len: usize, ledger: *mut u8, ledger_len: usize) -> u32;
+}
+
+/// Opens a ledger; answers 0 or the ground of refusal.
+pub fn open(block: &[u8], ledger: &mut [u8]) -> u32 {
+    // SAFETY: slices have true lengths and do not overlap, and their pointers are not null.
+    unsafe {
+        npa_open(
+            block.as_ptr(),
+            block.len(),
+            ledger.as_mut_ptr(),
+            ledger.len(),
+        )
+    }
+}

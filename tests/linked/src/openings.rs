@@ -1,0 +1,328 @@
+//! Calls to opening: fixed ones on both sides of every boundary, and random ones.
+
+use crate::compare::{Call, Calls};
+use npa_tests::layout::Opening;
+use npa_tests::random::{
+    flip, long_open, open_call_for, valid_open, OpenCall, OpenCase, Rng, FULL, MIDDLE, SMALL,
+};
+
+pub const CALLS: Calls<1> = Calls { fixed, random };
+
+impl From<OpenCall> for Call<1> {
+    fn from(call: OpenCall) -> Self {
+        Call {
+            read: call.block,
+            written: [call.ledger],
+        }
+    }
+}
+
+// ---------------------------------------------------------------- fixed calls
+
+fn fixed(rng: &mut Rng) -> Vec<Call<1>> {
+    let mut cases = lengths();
+    cases.extend(terms());
+    cases.extend(counts());
+    cases.extend(offsets());
+    cases.extend(ids());
+    cases.extend(rooms());
+    cases.extend(two_faults());
+    let mut calls: Vec<Call<1>> = cases.iter().map(|case| case.call(rng).into()).collect();
+    calls.extend(single_bits(rng));
+    calls
+}
+
+/// The ledger bytes of so many ids.
+fn needed(ids: usize) -> usize {
+    64 + 32 * ids
+}
+
+/// So many ids.
+fn rising(count: usize) -> Vec<u32> {
+    (1..=count as u32).map(|index| 7 * index).collect()
+}
+
+/// An opening to accept, if the ids are; all just long enough.
+fn opening_of(ids: &[u32]) -> OpenCase {
+    OpenCase {
+        opening: Opening::new(30_000, 365, ids),
+        ledger_length: needed(ids.len()),
+    }
+}
+
+/// The opening of document 01's listing.
+fn listing() -> OpenCase {
+    opening_of(&[11, 12, 13, 14])
+}
+
+/// Blocks of every length near both bounds, with one id or all that fit, up to the end or past it.
+fn lengths() -> Vec<OpenCase> {
+    let mut cases = Vec::new();
+    for length in (0..=64).chain(4093..=4097usize) {
+        let most = (length.saturating_sub(20) / 4).clamp(1, 512);
+        for count in [1, most] {
+            let last = length.saturating_sub(4 * count);
+            for ids_at in [20, last, last + 1] {
+                let mut case = opening_of(&rising(count));
+                case.opening.place(ids_at, 0);
+                case.opening.length = length;
+                cases.push(case);
+            }
+        }
+    }
+    cases
+}
+
+/// Formats, Net CONE and days at their bounds, and right only in some of their bytes.
+fn terms() -> Vec<OpenCase> {
+    let high = 1 << 31;
+    let formats = [0, 1, 2, 255, 256, 257, 65_537, high + 1, u32::MAX];
+    let net_cones = [
+        0, 1, 2, 255, 256, 65_536, 199_999, 200_000, 200_001, 265_536,
+    ];
+    let days = [0, 109, 110, 364, 365, 366, 367, 65_901, 65_902, high + 365];
+    let words = formats.map(|value| (0, value)).into_iter();
+    words
+        .chain(net_cones.map(|value| (1, value)))
+        .chain([(1, high), (1, high + 1), (1, u32::MAX), (2, u32::MAX)])
+        .chain(days.map(|value| (2, value)))
+        .map(|(word, value)| {
+            let mut case = listing();
+            case.opening.words[word] = value;
+            case
+        })
+        .collect()
+}
+
+/// Numbers of ids at their bounds: with just these ids, and with room for more.
+fn counts() -> Vec<OpenCase> {
+    let full = opening_of(&rising(520));
+    let near = [0, 1, 2, 255, 256, 257, 511, 512, 513, 520, 521];
+    let far = [1 << 16, 1 << 30, 1 << 31].map(|high| [high, high + 1, high + 512]);
+    let mut cases: Vec<OpenCase> = (511..=514)
+        .map(|count| opening_of(&rising(count)))
+        .collect();
+    for count in near.into_iter().chain(far.concat()).chain([u32::MAX]) {
+        let mut case = full.clone();
+        case.opening.words[3] = count;
+        cases.push(case);
+    }
+    cases
+}
+
+/// Offsets at both ends of the block, and those that fit only if a sum of 32 bits wraps.
+fn offsets() -> Vec<OpenCase> {
+    let mut cases = Vec::new();
+    for count in [1, 4, 512] {
+        let mut case = opening_of(&rising(count));
+        for ids_at in 17..=24 {
+            case.opening.place(ids_at, 3);
+            cases.push(case.clone());
+        }
+        case.opening.place(31, 9);
+        let (end, bytes) = (case.opening.length as u32, 4 * count as u32);
+        let last = end - bytes;
+        let wrapping = (0..=24).chain(end - 2..=end + 2);
+        let offsets = (0..=40)
+            .chain(last - 2..=last + 2)
+            .chain(end - 5..=end + 5)
+            .chain(u32::MAX - 63..=u32::MAX)
+            .chain(wrapping.map(|sum| sum.wrapping_sub(bytes)));
+        for offset in offsets {
+            let mut moved = case.clone();
+            moved.opening.words[4] = offset;
+            cases.push(moved);
+        }
+    }
+    cases
+}
+
+/// Ids that are 0, equal, fall or rise by one, and rosters whose bytes mislead.
+fn ids() -> Vec<OpenCase> {
+    let mut cases = [0, 1, 2, 1 << 31, u32::MAX]
+        .map(|id| opening_of(&[id]))
+        .to_vec();
+    for count in [2, 3, 4, 511, 512] {
+        for index in [0, 1, count / 2, count - 1] {
+            let ids = rising(count);
+            let before = if index == 0 { 0 } else { ids[index - 1] };
+            let values = [0, 1, before.saturating_sub(1), before, before + 1];
+            for id in values.into_iter().chain([1 << 31, u32::MAX]) {
+                let mut case = opening_of(&ids);
+                case.opening.ids[index] = id;
+                cases.push(case);
+            }
+        }
+    }
+    let high = 1 << 31;
+    let pairs = [255, 256, 65_535, 65_536, 1 << 24, high - 1, high, u32::MAX];
+    for first in pairs {
+        cases.extend(pairs.map(|second| opening_of(&[first, second])));
+    }
+    cases
+}
+
+/// Ledger buffers of every length around the one needed, and far from it.
+fn rooms() -> Vec<OpenCase> {
+    let mut cases = Vec::new();
+    for count in [1, 2, 4, 511, 512] {
+        let needed = needed(count);
+        let lengths = (0..=65).chain(needed - 33..=needed + 33);
+        for length in lengths.chain([needed + 4096]) {
+            let mut case = opening_of(&rising(count));
+            case.ledger_length = length;
+            cases.push(case);
+        }
+    }
+    cases
+}
+
+/// A fault that makes the listing's opening one to refuse on this ground.
+type Fault = (u32, fn(&mut OpenCase));
+
+const FAULTS: [Fault; 20] = [
+    (1, |case| case.opening.length = 0),
+    (1, |case| case.opening.length = 19),
+    (1, |case| case.opening.length = 4097),
+    (1, |case| case.opening.words[0] = 0),
+    (1, |case| case.opening.words[0] = 2),
+    (2, |case| case.opening.words[1] = 0),
+    (2, |case| case.opening.words[1] = 200_001),
+    (2, |case| case.opening.words[2] = 364),
+    (2, |case| case.opening.words[2] = 367),
+    (3, |case| case.opening.words[3] = 0),
+    (3, |case| case.opening.words[3] = 5),
+    (3, |case| case.opening.words[3] = 513),
+    (3, |case| case.opening.words[4] = 19),
+    (3, |case| case.opening.words[4] = 21),
+    (3, |case| case.opening.words[4] = 0xffff_fff0),
+    (4, |case| case.opening.ids[0] = 0),
+    (4, |case| case.opening.ids[2] = 12),
+    (4, |case| case.opening.ids[3] = 12),
+    (5, |case| case.ledger_length = 0),
+    (5, |case| case.ledger_length = needed(4) - 1),
+];
+
+/// Every two faults together, for the order of the grounds.
+fn two_faults() -> Vec<OpenCase> {
+    let mut cases = Vec::new();
+    for (_, first) in FAULTS {
+        for (_, second) in FAULTS {
+            let mut case = listing();
+            first(&mut case);
+            second(&mut case);
+            cases.push(case);
+        }
+    }
+    cases
+}
+
+/// The listing's block with each of its bits turned.
+fn single_bits(rng: &mut Rng) -> Vec<Call<1>> {
+    let call = listing().call(rng);
+    let bits = 8 * call.block.len();
+    let turned = |bit: usize| {
+        let mut turned = call.clone();
+        turned.block[bit / 8] ^= 1 << (bit % 8);
+        turned.into()
+    };
+    (0..bits).map(turned).collect()
+}
+
+// ---------------------------------------------------------------- random calls
+
+fn random(rng: &mut Rng, number: u64) -> Call<1> {
+    let size = rng.pick(&[SMALL, SMALL, MIDDLE, FULL]);
+    let call = match number % 10 {
+        kind @ 0..=4 => open_call_for(rng, &size, 1 + kind as u32),
+        5 => long_open(rng, &size),
+        6 => {
+            let mut call = valid_open(rng, &size).call(rng);
+            flip(rng, &mut call.block);
+            call
+        }
+        7 => any_bytes(rng),
+        _ => any_words(rng),
+    };
+    call.into()
+}
+
+/// Any bytes, half of them with the right format.
+fn any_bytes(rng: &mut Rng) -> OpenCall {
+    let length = rng.pick(&[0, 20, 4_080]) + rng.index(45);
+    let mut block = rng.bytes(length);
+    if block.len() >= 4 && rng.one_in(2) {
+        block[..4].copy_from_slice(&1u32.to_le_bytes());
+    }
+    let ledger_length = rng.index(300);
+    let ledger = rng.bytes(ledger_length);
+    OpenCall { block, ledger }
+}
+
+/// Words near their bounds, any of them at once.
+fn any_words(rng: &mut Rng) -> OpenCall {
+    let count = rng.up_to(12);
+    let mut case = opening_of(&rising(count));
+    let (before, behind) = (rng.index(4), rng.index(4));
+    case.opening.place(20 + before, behind);
+    let (end, bytes) = (case.opening.length as u32, 4 * count as u32);
+    let bounds: [&[u32]; 5] = [
+        &[1],
+        &[1, 200_000],
+        &[365, 366],
+        &[1, 512, count as u32, (1 << 30) + count as u32],
+        &[20, end - bytes, 0u32.wrapping_sub(bytes)],
+    ];
+    for (word, bounds) in case.opening.words.iter_mut().zip(bounds) {
+        if rng.one_in(4) {
+            *word = near(rng, bounds);
+        }
+    }
+    let index = rng.index(count);
+    if rng.one_in(4) {
+        case.opening.ids[index] = near(rng, &[0, 7 * index as u32, 7 * count as u32]);
+    }
+    case.ledger_length = needed(count) - 2 + rng.pick(&[0, 1, 2, 2, 2, 3, 40]);
+    case.call(rng)
+}
+
+/// One of the bounds, or up to 2 off.
+fn near(rng: &mut Rng, bounds: &[u32]) -> u32 {
+    let off = rng.between(-2, 2) as u32;
+    rng.pick(bounds).wrapping_add(off)
+}
+
+#[cfg(test)]
+mod tests {
+    use super::*;
+    use npa_tests::reference;
+
+    /// The reference's answer.
+    fn answer(case: &OpenCase) -> u32 {
+        let mut call = case.call(&mut Rng::new(1));
+        reference::open(&call.block, &mut call.ledger)
+    }
+
+    #[test]
+    fn each_fault_has_its_ground_and_the_first_of_two_counts() {
+        assert_eq!(answer(&listing()), 0);
+        for (ground, fault) in FAULTS {
+            let mut case = listing();
+            fault(&mut case);
+            assert_eq!(answer(&case), ground);
+        }
+        for (index, case) in two_faults().iter().enumerate() {
+            let (first, second) = (FAULTS[index / FAULTS.len()], FAULTS[index % FAULTS.len()]);
+            // The same word may be set twice, to a fault of one ground.
+            assert_eq!(answer(case), first.0.min(second.0), "{index}");
+        }
+    }
+
+    #[test]
+    fn every_length_near_a_bound_is_there() {
+        let calls = fixed(&mut Rng::new(1));
+        for length in (0..=64).chain(4093..=4097) {
+            assert!(calls.iter().any(|call| call.read.len() == length));
+        }
+    }
+}
