@@ -13,3 +13,4 @@ pub mod Step
 pub mod Claims
 pub mod OpeningTests
 pub mod OpeningWrites
+pub mod Impostors

@@ -1,0 +1,63 @@
+-- Wrong programs that could pass for opening, and for each a call that tells it from the definition, by computing it.
+use Prim.Native.Nat.{ℕ}
+use mathlib.Core.Path.{_≡_, ap}
+use mathlib.Core.List.{List, [], _∷_}
+use mathlib.Core.Bool.{Bool, cond}
+use native.Mathlib.Omega.{arith}
+use lib.ListN.{getD}
+use lib.Dec.{eqb}
+use Rattle.words.specs.Words.{written}
+use Rattle.words.specs.Grounds.{answered}
+use Rattle.reading.specs.Block.{blockOf, notABlock, termsOutside, idsMisplaced, idsOutOfOrder}
+use Rattle.ledger.specs.Ledger.{ledgerWords}
+use Rattle.ledger.specs.Opening.{OpeningAnswer, ledgerTooShort, openingGrounds, openedLedger, opening}
+use Rattle.ledger.specs.Listing.{buffer, blockWith, listingBlock}
+use Rattle.ledger.proofs.Computing.{computing}
+
+-- a program is told from opening by a call if what it gives there is not what the definition gives
+abbrev pub Told : (List ℕ → List ℕ → OpeningAnswer) → List ℕ → List ℕ → Type 0
+Told program block ledger = program block ledger ≡ opening block ledger → ⊥
+
+-- always refuses
+pub alwaysRefuses : List ℕ → List ℕ → OpeningAnswer
+alwaysRefuses block ledger = record { ground = 1; ledger = ledger }
+
+pub always-refuses-told : Told alwaysRefuses listingBlock (buffer 192)
+unfolding alwaysRefuses listingBlock blockWith computing
+always-refuses-told same = omega (arith, ap (λ a. a .ground) same)
+
+-- answers 0 to everything
+pub fixedAnswer : List ℕ → List ℕ → OpeningAnswer
+fixedAnswer block ledger = record { ground = 0; ledger = written (ledgerWords (openedLedger block)) ledger }
+
+pub fixed-answer-told : Told fixedAnswer listingBlock (buffer 191)
+unfolding fixedAnswer listingBlock blockWith computing
+fixed-answer-told same = omega (arith, ap (λ a. a .ground) same)
+
+-- answers as it should, and does no work
+pub doesNoWork : List ℕ → List ℕ → OpeningAnswer
+doesNoWork block ledger = record { ground = opening block ledger .ground; ledger = ledger }
+
+pub does-no-work-told : Told doesNoWork listingBlock (buffer 192)
+unfolding doesNoWork listingBlock blockWith computing
+does-no-work-told same = omega (arith, ap (λ a. getD (a .ledger) 0 0) same)
+
+-- writes before the last check
+pub writesFirst : List ℕ → List ℕ → OpeningAnswer
+writesFirst block ledger =
+    let ground = answered (openingGrounds block ledger) in
+    record { ground = ground; ledger = cond (eqb ground 5) (written (ledgerWords (openedLedger block)) ledger) (opening block ledger .ledger) }
+
+pub writes-first-told : Told writesFirst listingBlock (buffer 191)
+unfolding writesFirst listingBlock blockWith computing
+writes-first-told same = omega (arith, ap (λ a. getD (a .ledger) 0 0) same)
+
+-- tests the ids' place before the terms
+pub groundsSwapped : List ℕ → List ℕ → OpeningAnswer
+groundsSwapped block ledger =
+    let grounds : List (Bool × ℕ) = (notABlock block, 1) ∷ (idsMisplaced block, 3) ∷ (termsOutside (blockOf block .terms), 2) ∷ (idsOutOfOrder (blockOf block .ids), 4) ∷ (ledgerTooShort block ledger, 5) ∷ [] in
+    record { ground = answered grounds; ledger = opening block ledger .ledger }
+
+pub grounds-swapped-told : Told groundsSwapped (blockWith 0 365 []) (buffer 64)
+unfolding groundsSwapped blockWith computing
+grounds-swapped-told same = omega (arith, ap (λ a. a .ground) same)
