@@ -1,1 +1,3 @@
 // What the rules make of the rows of one interval.
+
+pub mod units;

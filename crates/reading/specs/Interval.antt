@@ -116,13 +116,9 @@ pub record Row : Type 0 where
   pub pointCount : ℕ
   pub curve : List Point
 
--- a row's points: the stretch of the file that starts at its first point
-unfoldable pub curveOf : List ℕ → ℕ → ℕ → List Point
-curveOf f first count = entries pointBytes pointOf count (drop (headerOf f .pointsOffset + pointBytes * first) f)
-
--- the row of the file f that begins at the front of b
-unfoldable pub rowOf : List ℕ → List ℕ → Row
-rowOf f b = record {
+-- the row at the front of b, whose points begin at the front of another part of the file
+unfoldable pub rowAt : List ℕ → List ℕ → Row
+rowAt b points = record {
   id = word32 b 0;
   kind = word32 b 1;
   committed = word32 b 2;
@@ -137,8 +133,16 @@ rowOf f b = record {
   lmp = signed (word32 b 11);
   firstPoint = word32 b 12;
   pointCount = word32 b 13;
-  curve = curveOf f (word32 b 12) (word32 b 13);
+  curve = entries pointBytes pointOf (word32 b 13) points;
 }
+
+-- a row's points: the stretch of the file that starts at its first point
+unfoldable pub pointsFrom : List ℕ → ℕ → List ℕ
+pointsFrom f first = drop (headerOf f .pointsOffset + pointBytes * first) f
+
+-- the row of the file f that begins at the front of b
+unfoldable pub rowOf : List ℕ → List ℕ → Row
+rowOf f b = rowAt b (pointsFrom f (word32 b 12))
 
 -- the rows of a file, in its order
 unfoldable pub rowsOf : List ℕ → List Row

@@ -1,14 +1,12 @@
 -- Laws between the definitions of words and the code that reads and writes them, over the width and the place.
-use Prim.Native.Nat.{ℕ, zero, suc, _+_, _-_, _*_, _^_, _≤_, _<_}
+use Prim.Native.Nat.{ℕ, zero, suc, _+_, _*_, _^_, _≤_, _<_}
 use mathlib.Core.Path.{_≡_, refl, sym, ap, ap₂, _∙_}
 use mathlib.Core.List.{List, [], _∷_, _++_, append-assoc, append-nil}
 use native.Mathlib.Nat.{add-suc, suc-add, add-zero, zero-add, pow-succ', mul-assoc}
 use native.Mathlib.Numerals.{add-one}
 use native.Mathlib.Omega.{arith}
-use borrow.Author.Tests.{lt-ltb}
 use lib.ListN.{length, take, drop, getD, set, length-append, length-drop, take-append-drop, drop-of-length-le}
 use lib.Seq.{drop-drop, sets, sets-eq, length-take-le, take-at, drop-at, drop-cons, set-at}
-use lib.IntN.{pos, negsuc, _-ℤ_}
 use Rattle.words.specs.Words.{number, bytesOf, numberAt, entries, bytesOfWords, written, writtenAt}
 use Rattle.words.proofs.Words.{length-bytesOf, length-entries, length-bytesOfWords, length-written}
 
@@ -63,10 +61,6 @@ stored-word b at v h =
     ∙ append-assoc (take at b) (bytesOf 8 v) (drop (at + 8) b)
     ∙ ap (λ rest. take at b ++ (bytesOf 8 v ++ rest)) (sym (drop-drop 8 at b))
     ∙ ap (λ front. take at b ++ (front ++ drop 8 (drop at b))) (sym (one-word 8 v))
-
--- a number below 2^32, less 2^32
-pub less-2^32 : (x : ℕ) → x < 4294967296 → pos x -ℤ pos 4294967296 ≡ negsuc (4294967296 - suc x)
-less-2^32 x h = rw (lt-ltb x 4294967296 h)
 
 -- words of two lists, one list after the other
 pub words-append : (n : ℕ) (ws vs : List ℕ) → bytesOfWords n (ws ++ vs) ≡ bytesOfWords n ws ++ bytesOfWords n vs

@@ -6,3 +6,4 @@ pub mod Words
 pub mod Grounds
 pub mod Access
 pub mod ReadBack
+pub mod Ints

@@ -9,7 +9,7 @@ use mir.Syntax.{w64}
 use mir.Val.{SFits, toZ}
 use mir.ValLaws.{toZ-ofZ, toZ-pos}
 use Rattle.words.specs.Words.{signed}
-use Rattle.words.proofs.Access.{less-2^32}
+use Rattle.words.proofs.Ints.{less-2^32}
 use Rattle.words.proofs.signed.Statement.{statement}
 use Rattle.words.proofs.signed.Tie as tie
 

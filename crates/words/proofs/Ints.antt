@@ -1,0 +1,94 @@
+-- Signed numbers: what a local holds of one, and differences as natural numbers, each law by cases on the signs.
+use Prim.Native.Nat.{ℕ, zero, suc, _+_, _-_, _≤_, _<_}
+use mathlib.Core.Bool.{Bool, true, false, cond}
+use mathlib.Core.Path.{_≡_, refl, sym, ap, subst, _∙_}
+use native.Mathlib.Omega.{arith}
+use borrow.Author.Tests.{leb-true, leb-false, ltb-false, le-leb, le-ltb, lt-ltb}
+use lib.Dec.{T, ltb}
+use lib.IntN.{ℤ, pos, negsuc, subℕ, natAbs, _+ℤ_, _-ℤ_}
+use lib.Signed.{leZ, ltZ, mag}
+use mir.Syntax.{w64}
+use mir.Val.{toZ, ofZ}
+use mir.ValLaws.{toZ-ofZ}
+
+-- a signed local holds bits, and what is read back from them is the number
+pub plain : (z : ℤ) → mag z < 9223372036854775808 → toZ w64 (ofZ w64 z) ≡ z
+plain z h = toZ-ofZ w64 z (record { sfits = h })
+
+-- how far a stands above b, 0 where it does not
+abbrev pub gapOf : ℤ → ℤ → ℕ
+gapOf (pos a) (pos b) = a - b
+gapOf (pos a) (negsuc b) = a + suc b
+gapOf (negsuc a) (pos b) = 0
+gapOf (negsuc a) (negsuc b) = b - a
+
+pub never {ℓ} : {X : Type ℓ} → false ≡ true → X
+never e = absurd (subst T (sym e) tt)
+
+sub-pos : (a b : ℕ) → b ≤ a → subℕ a b ≡ pos (a - b)
+sub-pos a b h = rw (le-ltb a b h)
+
+pub diff : (a b : ℤ) → leZ b a ≡ true → a -ℤ b ≡ pos (gapOf a b)
+diff (pos a) (pos zero) e = ap pos (omega arith)
+diff (pos a) (pos (suc b)) e = sub-pos a (suc b) (leb-true (suc b) a e)
+diff (pos a) (negsuc b) e = refl
+diff (negsuc a) (pos b) e = never e
+diff (negsuc a) (negsuc b) e = sub-pos (suc b) (suc a) (omega (arith, leb-true a b e)) ∙ ap pos (omega arith)
+
+-- the same as a natural number
+pub natAbs-diff : (a b : ℤ) → leZ b a ≡ true → natAbs (a -ℤ b) ≡ gapOf a b
+natAbs-diff a b e = ap natAbs (diff a b e)
+
+pub gap-le : (a b : ℤ) → gapOf a b ≤ mag a + mag b + 1
+gap-le (pos a) (pos b) = omega arith
+gap-le (pos a) (negsuc b) = omega arith
+gap-le (negsuc a) (pos b) = omega arith
+gap-le (negsuc a) (negsuc b) = omega arith
+
+-- with p at or below l and q above it
+pub gap-lt : (p l q : ℤ) → leZ p l ≡ true → leZ q l ≡ false → gapOf l p < gapOf q p
+gap-lt (pos p) (pos l) (pos q) e f = omega (arith, leb-true, leb-false)
+gap-lt (pos p) (pos l) (negsuc q) e f = never (sym f)
+gap-lt (pos p) (negsuc l) q e f = never e
+gap-lt (negsuc p) (pos l) (pos q) e f = omega (arith, leb-false)
+gap-lt (negsuc p) (pos l) (negsuc q) e f = never (sym f)
+gap-lt (negsuc p) (negsuc l) (pos q) e f = omega arith
+gap-lt (negsuc p) (negsuc l) (negsuc q) e f = omega (arith, leb-true, leb-false)
+
+pub mag-between : (n : ℕ) (p l q : ℤ) → leZ p l ≡ true → leZ q l ≡ false → mag p < n → mag q < n → mag l < n
+mag-between n (pos p) (pos l) (pos q) e f h k = omega (arith, leb-true, leb-false)
+mag-between n (pos p) (pos l) (negsuc q) e f h k = never (sym f)
+mag-between n (pos p) (negsuc l) q e f h k = never e
+mag-between n (negsuc p) (pos l) (pos q) e f h k = omega (arith, leb-false)
+mag-between n (negsuc p) (pos l) (negsuc q) e f h k = never (sym f)
+mag-between n (negsuc p) (negsuc l) q e f h k = omega (arith, leb-true)
+
+-- where l is not below p, p is at or below l
+pub le-of-not-lt : (l p : ℤ) → ltZ l p ≡ false → leZ p l ≡ true
+le-of-not-lt (pos l) (pos p) e = le-leb p l (ltb-false l p e)
+le-of-not-lt (pos l) (negsuc p) e = refl
+le-of-not-lt (negsuc l) (pos p) e = never (sym e)
+le-of-not-lt (negsuc l) (negsuc p) e = le-leb l p (ltb-false p l e)
+
+pub le-over : (p l q : ℤ) → leZ p l ≡ true → leZ q l ≡ false → leZ p q ≡ true
+le-over (pos p) (pos l) (pos q) e f = le-leb p q (omega (arith, leb-true, leb-false))
+le-over (pos p) (pos l) (negsuc q) e f = never (sym f)
+le-over (pos p) (negsuc l) q e f = never e
+le-over (negsuc p) l (pos q) e f = refl
+le-over (negsuc p) (pos l) (negsuc q) e f = never (sym f)
+le-over (negsuc p) (negsuc l) (negsuc q) e f = le-leb q p (omega (arith, leb-true, leb-false))
+
+-- a word of 32 bits in the upper half, less 2^32
+pub less-2^32 : (x : ℕ) → x < 4294967296 → pos x -ℤ pos 4294967296 ≡ negsuc (4294967296 - suc x)
+less-2^32 x h = rw (lt-ltb x 4294967296 h)
+
+-- a sum's size
+mag-cond : (t : Bool) (a b : ℕ) → mag (cond t (negsuc (b - suc a)) (pos (a - b))) ≤ a + b
+mag-cond true a b = omega arith
+mag-cond false a b = omega arith
+
+pub mag-sum : (a b : ℤ) → mag (a +ℤ b) ≤ mag a + mag b + 1
+mag-sum (pos a) (pos b) = omega arith
+mag-sum (pos a) (negsuc b) = omega (arith, mag-cond (ltb a (suc b)) a (suc b))
+mag-sum (negsuc a) (pos b) = omega (arith, mag-cond (ltb b (suc a)) b (suc a))
+mag-sum (negsuc a) (negsuc b) = omega arith
