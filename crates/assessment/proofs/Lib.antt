@@ -1,5 +1,6 @@
 pub mod Computing
 pub mod Figures
-pub mod Rules
+pub mod Promises
 pub mod Limits
 pub mod Shares
+pub mod RuleLaws

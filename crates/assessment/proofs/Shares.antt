@@ -12,7 +12,7 @@ use Rattle.words.proofs.Lists.{sum-zero, sum-le, sum-same}
 use Rattle.reading.specs.Block.{Terms}
 use Rattle.reading.specs.Interval.{Header, Row}
 use Rattle.assessment.specs.Assessment.{considered, ifConsidered, Ratio, ratioOf, expected, bonus, rowFigures, Account, chargedRow, Assessed, assessed, totalBonus, pool, share, credit, credits, carriedOn}
-use Rattle.assessment.proofs.Rules.{if-le}
+use Rattle.assessment.proofs.Promises.{if-le}
 
 -- where some weight is above 0, one is counted
 counted : {A : Type 0} (w : A → ℕ) (xs : List A) → 0 < sum w xs → 0 < sum (λ x. cond (ltb 0 (w x)) 1 0) xs

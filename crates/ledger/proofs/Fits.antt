@@ -12,7 +12,7 @@ use Rattle.words.proofs.Lists.{member-le, sum-le, sum-map, sum-most}
 use Rattle.reading.specs.Interval.{mostKilowatts, mostRows, Header, Row}
 use Rattle.reading.proofs.Bounds.{terms-in, HeaderIn, RowIn}
 use Rattle.assessment.specs.Assessment.{ratioOf, numerator, denominator, printedRatio, Account, ChargedRow, chargedRow, Assessed, assessed, charges, totalBonus, pool, credit, credits, carriedOn}
-use Rattle.assessment.proofs.Rules.{FiguresIn, figures-in, printed-le, numerator-le, denominator-le}
+use Rattle.assessment.proofs.Promises.{FiguresIn, figures-in, printed-le, numerator-le, denominator-le}
 use Rattle.assessment.proofs.Limits.{limit-le}
 use Rattle.assessment.proofs.Shares.{credits-le}
 use Rattle.ledger.specs.Ledger.{mostCents, Ledger}

@@ -12,7 +12,7 @@ use Rattle.words.proofs.Lists.{rises-next, rises-rest}
 use Rattle.reading.specs.Block.{Terms}
 use Rattle.reading.specs.Interval.{Row}
 use Rattle.assessment.specs.Assessment.{Ratio, rowFigures, Account, accountOf, raised, limit, charge, chargedRow, Assessed}
-use Rattle.assessment.proofs.Rules.{if-le}
+use Rattle.assessment.proofs.Promises.{if-le}
 use Rattle.assessment.proofs.Limits.{limit-rises, charge-le}
 use Rattle.ledger.specs.Year.{GivenRow, sumOfPlant, largestOfPlant}
 use Rattle.ledger.proofs.Given.{givenOf}

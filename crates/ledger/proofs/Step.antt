@@ -14,7 +14,7 @@ use Rattle.reading.specs.Block.{blockOf}
 use Rattle.reading.specs.Interval.{Row, headerOf, rowsOf}
 use Rattle.reading.proofs.Bounds.{terms-in, length-ids, ids-rise}
 use Rattle.assessment.specs.Assessment.{Ratio, ratioOf, limit, accountOf, chargedRow, Assessed, assessed, pool, carriedOn}
-use Rattle.assessment.proofs.Rules.{exclusive}
+use Rattle.assessment.proofs.Promises.{exclusive}
 use Rattle.assessment.proofs.Shares.{credits-le, carried-lt}
 use Rattle.ledger.specs.Ledger.{mostCents, Ledger, ledgerBytes, ledgerOf, ledgerWords, idsIn, notALedger}
 use Rattle.ledger.specs.Opening.{emptyAccount, openedLedger}

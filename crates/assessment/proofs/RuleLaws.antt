@@ -1,0 +1,130 @@
+-- What the tests and matches of the code say of the rules.
+use Prim.Native.Nat.{ℕ, zero, suc, _-_, _*_, _/_, _≤_, _<_, min}
+use mathlib.Core.Path.{_≡_, refl}
+use mathlib.Core.Logic.{_⊎_, inl, inr, ⊎-elim}
+use mathlib.Core.Bool.{true, false, true≢false}
+use native.Mathlib.Nat.{mul-le-mul}
+use native.Mathlib.Decide.{decLe}
+use native.Mathlib.Omega.{arith}
+use lib.IntN.{ℤ, pos, negsuc, natAbs}
+use lib.Dec.{T}
+use lib.Signed.{ltZ, nonNeg, mag}
+use borrow.Author.Tests.{eq-eqb, ne-eqb, ltb-true}
+use Rattle.reading.specs.Interval.{Row, Kind, generation, demand, efficiency, responsive, energyOnly, noKind, kindOf}
+use Rattle.assessment.specs.Assessment.{orZero, actual, scheduled, Ratio, portion, expectedAs, expected, bonusActualAs, bonus, outageAs, outage, economicRule, economicAs, economic, share}
+
+-- a number below 0 counts as 0
+pub negative : (z : ℤ) → ltZ z (pos 0) ≡ true → orZero z ≡ 0
+unfolding orZero
+negative (pos n) e = absurd (omega (arith, ltb-true n 0 e))
+negative (negsuc n) e = refl
+
+-- one that is not is itself
+pub not-negative : (z : ℤ) → ltZ z (pos 0) ≡ false → T (nonNeg z) × (natAbs z ≡ orZero z) × (natAbs z ≤ mag z)
+unfolding orZero
+not-negative (pos n) e = (tt, refl, omega arith)
+not-negative (negsuc n) e = absurd (true≢false e)
+
+-- a ratio without a denominator, and one with
+pub no-denominator : (n d whole : ℕ) → d ≡ 0 → portion (record { numerator = n; denominator = d }) whole ≡ 0
+unfolding portion
+no-denominator n d whole e = rw (eq-eqb d 0 e)
+
+pub some-denominator : (n d whole : ℕ) → (d ≡ 0 → ⊥) → portion (record { numerator = n; denominator = d }) whole ≡ min (whole * n / d) whole
+unfolding portion
+some-denominator n d whole e = rw (ne-eqb d 0 e)
+
+-- what a kind word above 4 says
+pub kind-none : (k : ℕ) → 4 < k → kindOf k ≡ noKind
+unfolding kindOf
+kind-none k h =
+    rw (ne-eqb k 0 (λ e. omega arith), ne-eqb k 1 (λ e. omega arith), ne-eqb k 2 (λ e. omega arith), ne-eqb k 3 (λ e. omega arith), ne-eqb k 4 (λ e. omega arith))
+
+-- what holds of kinds 1, 2 and 3 holds of a kind word below 4 that is not 0
+pub kind-reducing : (P : Kind → Type 0) → P demand → P efficiency → P responsive → (k : ℕ) → (k ≡ 0 → ⊥) → k < 4 → P (kindOf k)
+unfolding kindOf
+kind-reducing P d e r zero some h = absurd (some refl)
+kind-reducing P d e r (suc zero) some h = d
+kind-reducing P d e r (suc (suc zero)) some h = e
+kind-reducing P d e r (suc (suc (suc zero))) some h = r
+kind-reducing P d e r (suc (suc (suc (suc k)))) some h = absurd (omega arith)
+
+-- and what holds of kind 4 and of no kind, of one from 4 on
+pub kind-high : (P : Kind → Type 0) → P energyOnly → P noKind → (k : ℕ) → 4 ≤ k → P (kindOf k)
+kind-high P o n k h = by (decLe k 4)
+  where
+    by : Dec (k ≤ 4) → P (kindOf k)
+    by (yes q) = let four : k ≡ 4 = omega arith in rw four (unfold kindOf in o)
+    by (no q) = rw (kind-none k (omega arith)) n
+
+-- Expected, by the kind word
+module _ (q : Ratio) (r : Row) where
+  pub expected-generation : r .kind ≡ 0 → expected q r ≡ portion q (r .committed)
+  unfolding expected expectedAs kindOf
+  expected-generation e = rw e
+
+  pub expected-reducing : (r .kind ≡ 0 → ⊥) → r .kind < 4 → expected q r ≡ r .committed
+  unfolding expected expectedAs
+  expected-reducing some h = kind-reducing (λ k. expectedAs k q r ≡ r .committed) refl refl refl (r .kind) some h
+
+  pub expected-high : 4 ≤ r .kind → expected q r ≡ 0
+  unfolding expected expectedAs
+  expected-high h = kind-high (λ k. expectedAs k q r ≡ 0) refl refl (r .kind) h
+
+-- kinds 0 and 4
+pub kind-supply : (P : Kind → Type 0) → P generation → P energyOnly → (k : ℕ) → (k ≡ 0) ⊎ (k ≡ 4) → P (kindOf k)
+unfolding kindOf
+kind-supply P g o k = ⊎-elim (λ e. rw e g) (λ e. rw e o)
+
+-- any other
+pub kind-other : (P : Kind → Type 0) → P demand → P efficiency → P responsive → P noKind → (k : ℕ) → ((k ≡ 0) ⊎ (k ≡ 4) → ⊥) → P (kindOf k)
+kind-other P d e r n k other = by (decLe k 3)
+  where
+    by : Dec (k ≤ 3) → P (kindOf k)
+    by (yes h) = kind-reducing P d e r k (λ q. other (inl q)) (omega arith)
+    by (no h) = let not-four : k ≡ 4 → ⊥ = λ q. other (inr q) in rw (kind-none k (omega arith)) n
+
+-- Outage, by the kind word
+module _ (r : Row) where
+  pub outage-supply : (r .kind ≡ 0) ⊎ (r .kind ≡ 4) → outage r ≡ r .planned
+  unfolding outage outageAs
+  outage-supply h = kind-supply (λ k. outageAs k r ≡ r .planned) refl refl (r .kind) h
+
+  pub outage-other : ((r .kind ≡ 0) ⊎ (r .kind ≡ 4) → ⊥) → outage r ≡ 0
+  unfolding outage outageAs
+  outage-other h = kind-other (λ k. outageAs k r ≡ 0) refl refl refl refl (r .kind) h
+
+  -- Bonus, by the kind word
+  pub bonus-supply : (e : ℕ) → (r .kind ≡ 0) ⊎ (r .kind ≡ 4) → bonus r e ≡ min (actual r) (scheduled r) - e
+  unfolding bonus bonusActualAs
+  bonus-supply e h = kind-supply (λ k. bonusActualAs k r - e ≡ min (actual r) (scheduled r) - e) refl refl (r .kind) h
+
+  pub bonus-reducing : (e : ℕ) → (r .kind ≡ 0 → ⊥) → r .kind < 4 → bonus r e ≡ actual r - e
+  unfolding bonus bonusActualAs
+  bonus-reducing e some h = kind-reducing (λ k. bonusActualAs k r - e ≡ actual r - e) refl refl refl (r .kind) some h
+
+  pub bonus-none : (e : ℕ) → 4 < r .kind → bonus r e ≡ 0
+  unfolding bonus bonusActualAs
+  bonus-none e h = rw (kind-none (r .kind) h) (omega arith)
+
+  -- Economic, by the kind word
+  pub economic-supply : (e : ℕ) → (r .kind ≡ 0) ⊎ (r .kind ≡ 4) → economic r e ≡ economicRule r e
+  unfolding economic economicAs
+  economic-supply e h = kind-supply (λ k. economicAs k r e ≡ economicRule r e) refl refl (r .kind) h
+
+  pub economic-other : (e : ℕ) → ((r .kind ≡ 0) ⊎ (r .kind ≡ 4) → ⊥) → economic r e ≡ 0
+  unfolding economic economicAs
+  economic-other e h = kind-other (λ k. economicAs k r e ≡ 0) refl refl refl refl (r .kind) h
+
+-- a product of three bounded factors
+pub product-le : {a b c : ℕ} (x y z : ℕ) → a ≤ x → b ≤ y → c ≤ z → a * b * c ≤ x * y * z
+product-le x y z h k l = mul-le-mul (mul-le-mul h k) l
+
+-- a share with no bonus at all, and one with some
+pub no-share : (cents total kw : ℕ) → total ≡ 0 → share cents total kw ≡ 0
+unfolding share
+no-share cents total kw e = rw (eq-eqb total 0 e)
+
+pub some-share : (cents total kw : ℕ) → (total ≡ 0 → ⊥) → share cents total kw ≡ kw * cents / total
+unfolding share
+some-share cents total kw e = rw (ne-eqb total 0 e)

@@ -1,0 +1,248 @@
+// The rules of a row and of a pool, each a function that gives what its definition gives.
+
+use crate::units::Cents;
+use crate::units::Kilowatts;
+use reading::interval::ADJUSTMENT;
+use reading::interval::COMMITTED;
+use reading::interval::FORCED;
+use reading::interval::KIND;
+use reading::interval::MAXIMUM;
+use reading::interval::METERED;
+use reading::interval::OWNED;
+use reading::interval::PLANNED;
+use reading::interval::signed_word;
+use reading::interval::word;
+ghost use mathlib.Core.Path.{_≡_};
+ghost use mathlib.Core.List.{[]};
+ghost use Prim.Native.Nat.{_+_, _-_, _*_, _≤_, _<_, _^_, min, max};
+ghost use lib.ListN.{length};
+ghost use lib.IntN.{_+ℤ_};
+ghost use lib.Signed.{mag};
+ghost use Rattle.reading.specs.Interval.{rowAt};
+ghost use Rattle.assessment.specs.Assessment.{
+  orZero,
+  actual as actualOf,
+  scheduled as scheduledOf,
+  portion as portionOf,
+  expected as expectedOf,
+  bonus as bonusOf,
+  outage as outageOf,
+  economic as economicOf,
+  shortfall as shortfallOf,
+  limit as limitOf,
+  fullCharge,
+  charge as chargeOf,
+  share as shareOf,
+};
+
+const LIMIT_FACTOR: u64 = 3;
+
+const LIMIT_DIVISOR: u64 = 2000;
+
+const CHARGE_DIVISOR: u64 = 360000;
+
+fn lesser(a: u64, b: u64) -> u64
+    ensures { λ r. ⌜ r ≡ min a b ⌝ }
+{
+    if a < b {
+        return a;
+    }
+    b
+}
+
+fn greater(a: u64, b: u64) -> u64
+    ensures { λ r. ⌜ r ≡ max a b ⌝ }
+{
+    if a < b {
+        return b;
+    }
+    a
+}
+
+// What a has above b, 0 if nothing.
+fn above(a: u64, b: u64) -> u64
+    ensures { λ r. ⌜ r ≡ a - b ⌝ }
+{
+    if a < b {
+        return 0;
+    }
+    a - b
+}
+
+// The sum of two signed words, or 0 if it is negative.
+fn sum_or_zero(a: i64, b: i64) -> u64
+    requires { ⌜ mag a < 2 ^ 31 ⌝ }
+    requires { ⌜ mag b < 2 ^ 31 ⌝ }
+    ensures { λ r. ⌜ r ≡ orZero (a +ℤ b) ⌝ }
+    ensures { λ r. ⌜ r < 2 ^ 33 ⌝ }
+{
+    let sum = a + b;
+    if sum < 0 {
+        return 0;
+    }
+    sum as u64
+}
+
+// Actual: metered plus adjustment, or 0 if that is negative.
+pub fn actual(row: &[u8]) -> Kilowatts
+    requires { ⌜ 56 ≤ length (now row) ⌝ }
+    ensures { λ r. ⌜ r .0 ≡ actualOf (rowAt (now (row .entry)) []) ⌝ }
+    ensures { λ r. ⌜ r .0 < 2 ^ 33 ⌝ }
+{
+    Kilowatts(sum_or_zero(signed_word(row, METERED), signed_word(row, ADJUSTMENT)))
+}
+
+// A whole by the ratio of two figures, rounded down once, never above the whole, and 0 if there is no denominator.
+pub fn portion(whole: u64, upper: Kilowatts, lower: Kilowatts) -> u64
+    requires { ⌜ whole ≤ 4000000 ⌝ }
+    requires { ⌜ upper .0 ≤ 2 ^ 40 ⌝ }
+    ensures { λ r. ⌜ r ≡ portionOf (record { numerator = upper .0; denominator = lower .0 }) whole ⌝ }
+{
+    let n = upper.0;
+    let d = lower.0;
+    if d == 0 {
+        return 0;
+    }
+    lesser(whole * n / d, whole)
+}
+
+// Expected, by the kind word.
+pub fn expected(row: &[u8], upper: Kilowatts, lower: Kilowatts) -> Kilowatts
+    requires { ⌜ 56 ≤ length (now row) ⌝ }
+    requires { ⌜ rowAt (now row) [] .committed ≤ 4000000 ⌝ }
+    requires { ⌜ upper .0 ≤ 2 ^ 40 ⌝ }
+    ensures { λ r. ⌜ r .0 ≡ expectedOf (record { numerator = upper .0; denominator = lower .0 }) (rowAt (now (row .entry)) []) ⌝ }
+{
+    let kind = word(row, KIND);
+    match kind {
+        0 => Kilowatts(portion(word(row, COMMITTED), upper, lower)),
+        1 | 2 | 3 => Kilowatts(word(row, COMMITTED)),
+        _ => Kilowatts(0),
+    }
+}
+
+// Outage, by the kind word.
+pub fn outage(row: &[u8]) -> Kilowatts
+    requires { ⌜ 56 ≤ length (now row) ⌝ }
+    ensures { λ r. ⌜ r .0 ≡ outageOf (rowAt (now (row .entry)) []) ⌝ }
+    ensures { λ r. ⌜ r .0 < 2 ^ 32 ⌝ }
+{
+    let kind = word(row, KIND);
+    match kind {
+        0 | 4 => Kilowatts(word(row, PLANNED)),
+        _ => Kilowatts(0),
+    }
+}
+
+// Bonus, of a row of which so many kW are expected, by the kind word: for kinds 0 and 4 the actual is first cut to the scheduled kW.
+pub fn bonus(
+    row: &[u8],
+    points: &[u8],
+    act: Kilowatts,
+    sched: Kilowatts,
+    expect: Kilowatts,
+) -> Kilowatts
+    requires { ⌜ 56 ≤ length (now row) ⌝ }
+    requires { ⌜ act .0 ≡ actualOf (rowAt (now row) (now points)) ⌝ }
+    requires { ⌜ sched .0 ≡ scheduledOf (rowAt (now row) (now points)) ⌝ }
+    ensures { λ r. ⌜ r .0 ≡ bonusOf (rowAt (now (row .entry)) (now (points .entry))) (expect .0) ⌝ }
+{
+    let kind = word(row, KIND);
+    match kind {
+        0 | 4 => Kilowatts(above(lesser(act.0, sched.0), expect.0)),
+        1 | 2 | 3 => Kilowatts(above(act.0, expect.0)),
+        _ => Kilowatts(0),
+    }
+}
+
+// Economic, of a row of which so many kW are expected, by the kind word.
+pub fn economic(
+    row: &[u8],
+    points: &[u8],
+    act: Kilowatts,
+    sched: Kilowatts,
+    expect: Kilowatts,
+) -> Kilowatts
+    requires { ⌜ 56 ≤ length (now row) ⌝ }
+    requires { ⌜ act .0 ≡ actualOf (rowAt (now row) (now points)) ⌝ }
+    requires { ⌜ sched .0 ≡ scheduledOf (rowAt (now row) (now points)) ⌝ }
+    ensures { λ r. ⌜ r .0 ≡ economicOf (rowAt (now (row .entry)) (now (points .entry))) (expect .0) ⌝ }
+{
+    let kind = word(row, KIND);
+    match kind {
+        0 | 4 => {
+            let able = above(word(row, OWNED), word(row, PLANNED) + word(row, FORCED));
+            let most = lesser(word(row, MAXIMUM), lesser(expect.0, able));
+            Kilowatts(above(most, greater(sched.0, act.0)))
+        }
+        _ => Kilowatts(0),
+    }
+}
+
+// The limit of a largest commitment, rounded down.
+pub fn limit(cone: u64, days: u64, kw: Kilowatts) -> Cents
+    requires { ⌜ cone ≤ 200000 ⌝ }
+    requires { ⌜ days ≤ 366 ⌝ }
+    requires { ⌜ kw .0 ≤ 4000000 ⌝ }
+    ensures { λ r. ⌜ r .0 ≡ limitOf (record { netCone = cone; days = days }) (kw .0) ⌝ }
+{
+    Cents(LIMIT_FACTOR * cone * days * kw.0 / LIMIT_DIVISOR)
+}
+
+// The charge for a shortfall before the limit cuts it, rounded down.
+pub fn full_charge(cone: u64, days: u64, short: Kilowatts) -> Cents
+    requires { ⌜ cone ≤ 200000 ⌝ }
+    requires { ⌜ days ≤ 366 ⌝ }
+    requires { ⌜ short .0 ≤ 4000000 ⌝ }
+    ensures { λ r. ⌜ r .0 ≡ fullCharge (record { netCone = cone; days = days }) (short .0) ⌝ }
+{
+    Cents(short.0 * cone * days / CHARGE_DIVISOR)
+}
+
+// Charge, to an account that the row has raised: cut to what is left under the limit.
+pub fn charge(cone: u64, days: u64, largest: Kilowatts, charged: Cents, short: Kilowatts) -> Cents
+    requires { ⌜ cone ≤ 200000 ⌝ }
+    requires { ⌜ days ≤ 366 ⌝ }
+    requires { ⌜ largest .0 ≤ 4000000 ⌝ }
+    requires { ⌜ short .0 ≤ 4000000 ⌝ }
+    ensures { λ r. ⌜ r .0 ≡ chargeOf (record { netCone = cone; days = days }) (record { id = 0; largest = largest .0; charged = charged .0; credited = 0 }) (short .0) ⌝ }
+{
+    let full = full_charge(cone, days, short);
+    let most = limit(cone, days, largest);
+    Cents(lesser(full.0, above(most.0, charged.0)))
+}
+
+// A share of the pool: bonus times pool divided by total bonus, rounded down; nothing with no bonus.
+pub fn share(cents: Cents, total: Kilowatts, kw: Kilowatts) -> Cents
+    requires { ⌜ cents .0 ≤ 1099511627775 ⌝ }
+    requires { ⌜ kw .0 ≤ 8000000 ⌝ }
+    ensures { λ r. ⌜ r .0 ≡ shareOf (cents .0) (total .0) (kw .0) ⌝ }
+{
+    let whole = total.0;
+    if whole == 0 {
+        return Cents(0);
+    }
+    let weight = kw.0;
+    let pool = cents.0;
+    Cents(weight * pool / whole)
+}
+
+// Shortfall, of a row of which so many kW are expected, from its actual, outage and economic kW.
+pub fn shortfall(
+    row: &[u8],
+    points: &[u8],
+    act: Kilowatts,
+    out: Kilowatts,
+    econ: Kilowatts,
+    expect: Kilowatts,
+) -> Kilowatts
+    requires { ⌜ act .0 ≡ actualOf (rowAt (now row) (now points)) ⌝ }
+    requires { ⌜ out .0 ≡ outageOf (rowAt (now row) (now points)) ⌝ }
+    requires { ⌜ econ .0 ≡ economicOf (rowAt (now row) (now points)) (expect .0) ⌝ }
+    requires { ⌜ act .0 < 2 ^ 33 ⌝ }
+    requires { ⌜ out .0 < 2 ^ 33 ⌝ }
+    requires { ⌜ econ .0 < 2 ^ 33 ⌝ }
+    ensures { λ r. ⌜ r .0 ≡ shortfallOf (rowAt (now (row .entry)) (now (points .entry))) (expect .0) ⌝ }
+{
+    Kilowatts(above(expect.0, act.0 + out.0 + econ.0))
+}
