@@ -3,3 +3,5 @@ pub mod Figures
 pub mod Bounds
 pub mod Order
 pub mod BlockTests
+pub mod FileTests
+pub mod RowTests

@@ -3,12 +3,46 @@
 use words::signed;
 use words::word32;
 ghost use mathlib.Core.Path.{_≡_};
+ghost use mathlib.Core.List.{_∷_, []};
+ghost use mathlib.Core.Bool.{not};
 ghost use Prim.Native.Nat.{_+_, _*_, _≤_, _<_, _^_};
 ghost use lib.ListN.{length};
+ghost use lib.Dec.{ltb};
 ghost use lib.Signed.{mag};
+ghost use Rattle.words.specs.Lists.{any};
 ghost use Rattle.words.specs.Words.{word32 as wordOf, signed as signedOf};
+ghost use Rattle.words.specs.Grounds.{beyond as beyondOf, liesFrom, overlap};
+ghost use Rattle.reading.specs.Interval.{headerOf, rowAt, notAFile, headerOutside, tablesMisplaced, rowOutside};
+
+const HEADER_BYTES: usize = 40;
+
+const MOST_BYTES: usize = 49152;
+
+const FILE_FORMAT: u64 = 1;
+
+const INTERVALS_PER_DAY: u64 = 288;
+
+const MOST_IMPORTS: u64 = 40000000;
+
+const MOST_ROWS: u64 = 512;
+
+const MOST_POINTS: u64 = 2048;
+
+const ROW_BYTES: usize = 56;
+
+const POINT_BYTES: usize = 8;
+
+const LAST_KIND: u64 = 4;
+
+const ENERGY_ONLY: u64 = 4;
+
+const MOST_KILOWATTS: u64 = 4000000;
+
+const MOST_PRICE: u64 = 1000000;
 
 // Words of the header.
+pub const FORMAT: usize = 0;
+
 pub const INTERVAL: usize = 1;
 
 pub const NET_CONE: usize = 2;
@@ -77,4 +111,159 @@ pub fn signed_word(part: &[u8], k: usize) -> i64
     ensures { λ r. ⌜ mag r < 2 ^ 31 ⌝ }
 {
     signed(word(part, k))
+}
+
+// Whether word k of a part of a file, as a signed number, lies outside -most to most.
+fn beyond(part: &[u8], k: usize, most: u64) -> bool
+    requires { ⌜ 4 * k + 4 ≤ length (now part) ⌝ }
+    ensures { λ r. ⌜ r ≡ beyondOf most (signedOf (wordOf (now (part .entry)) k)) ⌝ }
+{
+    let w = word(part, k);
+    if w < 0x8000_0000 {
+        return most < w;
+    }
+    most < 0x1_0000_0000 - w
+}
+
+// Ground 7.
+pub fn not_a_file(file: &[u8]) -> bool
+    ensures { λ r. ⌜ r ≡ notAFile (now (file .entry)) ⌝ }
+{
+    if file.len() < HEADER_BYTES {
+        return true;
+    }
+    if MOST_BYTES < file.len() {
+        return true;
+    }
+    word(file, FORMAT) != FILE_FORMAT
+}
+
+// Ground 9.
+pub fn header_outside(file: &[u8]) -> bool
+    requires { ⌜ 40 ≤ length (now file) ⌝ }
+    ensures { λ r. ⌜ r ≡ headerOutside (headerOf (now (file .entry))) ⌝ }
+{
+    let end = INTERVALS_PER_DAY * word(file, DAYS);
+    if end <= word(file, INTERVAL) {
+        return true;
+    }
+    if 1 < word(file, REGION_WIDE) {
+        return true;
+    }
+    beyond(file, IMPORTS, MOST_IMPORTS)
+}
+
+// Whether so many bytes at an offset leave bytes 40 to the file's end.
+fn leaves(file: &[u8], at: u64, bytes: u64) -> bool
+    requires { ⌜ at < 4294967296 ⌝ }
+    requires { ⌜ bytes < 4294967296 ⌝ }
+    ensures { λ r. ⌜ r ≡ not (liesFrom 40 (length (now (file .entry))) at bytes) ⌝ }
+{
+    if at < HEADER_BYTES as u64 {
+        return true;
+    }
+    (file.len() as u64) < at + bytes
+}
+
+// Whether two stretches of m and n bytes share a byte.
+fn share(a: u64, m: u64, b: u64, n: u64) -> bool
+    requires { ⌜ a + m < 8589934592 ⌝ }
+    requires { ⌜ b + n < 8589934592 ⌝ }
+    ensures { λ r. ⌜ r ≡ overlap a m b n ⌝ }
+{
+    if m == 0 {
+        return false;
+    }
+    if n == 0 {
+        return false;
+    }
+    if b + n <= a {
+        return false;
+    }
+    b < a + m
+}
+
+// Ground 11. The numbers are tested first, so that the tables' sizes are small.
+pub fn tables_misplaced(file: &[u8]) -> bool
+    requires { ⌜ 40 ≤ length (now file) ⌝ }
+    ensures { λ r. ⌜ r ≡ tablesMisplaced (now (file .entry)) ⌝ }
+{
+    let rows = word(file, ROWS);
+    if rows < 1 {
+        return true;
+    }
+    if MOST_ROWS < rows {
+        return true;
+    }
+    let points = word(file, POINTS);
+    if MOST_POINTS < points {
+        return true;
+    }
+    let a = word(file, ROWS_OFFSET);
+    let m = ROW_BYTES as u64 * rows;
+    if leaves(file, a, m) {
+        return true;
+    }
+    let b = word(file, POINTS_OFFSET);
+    let n = POINT_BYTES as u64 * points;
+    if leaves(file, b, n) {
+        return true;
+    }
+    share(a, m, b, n)
+}
+
+// Whether a word of a row that counts kW, and is not signed, is too high.
+fn kilowatts_outside(row: &[u8]) -> bool
+    requires { ⌜ 56 ≤ length (now row) ⌝ }
+    ensures { λ r. ⌜ r ≡ any (λ kw. ltb 4000000 kw) (wordOf (now (row .entry)) 2 ∷ wordOf (now (row .entry)) 3 ∷ wordOf (now (row .entry)) 6 ∷ wordOf (now (row .entry)) 7 ∷ wordOf (now (row .entry)) 8 ∷ wordOf (now (row .entry)) 9 ∷ []) ⌝ }
+{
+    if MOST_KILOWATTS < word(row, COMMITTED) {
+        return true;
+    }
+    if MOST_KILOWATTS < word(row, OWNED) {
+        return true;
+    }
+    if MOST_KILOWATTS < word(row, PLANNED) {
+        return true;
+    }
+    if MOST_KILOWATTS < word(row, FORCED) {
+        return true;
+    }
+    if MOST_KILOWATTS < word(row, MAXIMUM) {
+        return true;
+    }
+    MOST_KILOWATTS < word(row, MINIMUM)
+}
+
+// Ground 13, of the row at the front of a part of a file.
+pub fn row_outside(row: &[u8]) -> bool
+    requires { ⌜ 56 ≤ length (now row) ⌝ }
+    ensures { λ r. ⌜ r ≡ rowOutside (rowAt (now (row .entry)) []) ⌝ }
+{
+    let kind = word(row, KIND);
+    if LAST_KIND < kind {
+        return true;
+    }
+    if kilowatts_outside(row) {
+        return true;
+    }
+    if beyond(row, METERED, MOST_KILOWATTS) {
+        return true;
+    }
+    if beyond(row, ADJUSTMENT, MOST_KILOWATTS) {
+        return true;
+    }
+    if word(row, MAXIMUM) < word(row, MINIMUM) {
+        return true;
+    }
+    if 1 < word(row, ONLINE) {
+        return true;
+    }
+    if beyond(row, LMP, MOST_PRICE) {
+        return true;
+    }
+    if kind != ENERGY_ONLY {
+        return false;
+    }
+    0 < word(row, COMMITTED)
 }
