@@ -5,3 +5,6 @@ pub mod Order
 pub mod BlockTests
 pub mod FileTests
 pub mod RowTests
+pub mod Tables
+pub mod CurveTests
+pub mod Walk

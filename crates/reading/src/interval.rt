@@ -3,16 +3,16 @@
 use words::signed;
 use words::word32;
 ghost use mathlib.Core.Path.{_≡_};
-ghost use mathlib.Core.List.{_∷_, []};
-ghost use mathlib.Core.Bool.{not};
-ghost use Prim.Native.Nat.{_+_, _*_, _≤_, _<_, _^_};
-ghost use lib.ListN.{length};
+ghost use mathlib.Core.List.{_∷_, [], map};
+ghost use mathlib.Core.Bool.{not, _||_, _&&_};
+ghost use Prim.Native.Nat.{_+_, _-_, _*_, _≤_, _<_, _^_};
+ghost use lib.ListN.{length, drop};
 ghost use lib.Dec.{ltb};
 ghost use lib.Signed.{mag};
 ghost use Rattle.words.specs.Lists.{any};
 ghost use Rattle.words.specs.Words.{word32 as wordOf, signed as signedOf};
-ghost use Rattle.words.specs.Grounds.{beyond as beyondOf, liesFrom, overlap};
-ghost use Rattle.reading.specs.Interval.{headerOf, rowAt, notAFile, headerOutside, tablesMisplaced, rowOutside};
+ghost use Rattle.words.specs.Grounds.{answered, beyond as beyondOf, liesFrom, overlap};
+ghost use Rattle.reading.specs.Interval.{headerOf, rowAt, rowsOf, pointOf, notAFile, headerOutside, tablesMisplaced, rowOutside, pointOutside, falls as fallsOf, pointsOutside};
 
 const HEADER_BYTES: usize = 40;
 
@@ -31,6 +31,8 @@ const MOST_POINTS: u64 = 2048;
 const ROW_BYTES: usize = 56;
 
 const POINT_BYTES: usize = 8;
+
+const MOST_ROW_POINTS: u64 = 10;
 
 const LAST_KIND: u64 = 4;
 
@@ -215,7 +217,7 @@ pub fn tables_misplaced(file: &[u8]) -> bool
 // Whether a word of a row that counts kW, and is not signed, is too high.
 fn kilowatts_outside(row: &[u8]) -> bool
     requires { ⌜ 56 ≤ length (now row) ⌝ }
-    ensures { λ r. ⌜ r ≡ any (λ kw. ltb 4000000 kw) (wordOf (now (row .entry)) 2 ∷ wordOf (now (row .entry)) 3 ∷ wordOf (now (row .entry)) 6 ∷ wordOf (now (row .entry)) 7 ∷ wordOf (now (row .entry)) 8 ∷ wordOf (now (row .entry)) 9 ∷ []) ⌝ }
+    ensures { λ r. ⌜ r ≡ any (λ kw. ltb 4000000 kw) (map (wordOf (now (row .entry))) (2 ∷ 3 ∷ 6 ∷ 7 ∷ 8 ∷ 9 ∷ [])) ⌝ }
 {
     if MOST_KILOWATTS < word(row, COMMITTED) {
         return true;
@@ -266,4 +268,100 @@ pub fn row_outside(row: &[u8]) -> bool
         return false;
     }
     0 < word(row, COMMITTED)
+}
+
+// Whether the points of the row at the front of a part of a file are too many, or reach beyond the table.
+fn curve_misplaced(row: &[u8], points: u64) -> bool
+    requires { ⌜ 56 ≤ length (now row) ⌝ }
+    ensures { λ r. ⌜ r ≡ (ltb 10 (wordOf (now (row .entry)) 13) || (ltb 0 (wordOf (now (row .entry)) 13) && ltb points (wordOf (now (row .entry)) 12 + wordOf (now (row .entry)) 13))) ⌝ }
+{
+    let count = word(row, POINT_COUNT);
+    if MOST_ROW_POINTS < count {
+        return true;
+    }
+    // with no points, the first of them is free
+    if count == 0 {
+        return false;
+    }
+    points < word(row, FIRST_POINT) + count
+}
+
+// Whether the point at the front of a part of a file is out of range.
+fn point_outside(point: &[u8]) -> bool
+    requires { ⌜ 8 ≤ length (now point) ⌝ }
+    ensures { λ r. ⌜ r ≡ pointOutside (pointOf (now (point .entry))) ⌝ }
+{
+    if beyond(point, PRICE, MOST_PRICE) {
+        return true;
+    }
+    MOST_KILOWATTS < word(point, KW)
+}
+
+// Whether the price or the kW falls from the point at the front of one part of a file to that of another.
+fn falls(point: &[u8], next: &[u8]) -> bool
+    requires { ⌜ 8 ≤ length (now point) ⌝ }
+    requires { ⌜ 8 ≤ length (now next) ⌝ }
+    ensures { λ r. ⌜ r ≡ fallsOf (pointOf (now (point .entry)) ∷ pointOf (now (next .entry)) ∷ []) ⌝ }
+{
+    if signed_word(next, PRICE) < signed_word(point, PRICE) {
+        return true;
+    }
+    word(next, KW) < word(point, KW)
+}
+
+// Whether point j of a curve is out of range, or falls from the one before it.
+fn point_refused(curve: &[u8], j: usize) -> bool
+    requires { ⌜ 8 * j + 8 ≤ length (now curve) ⌝ }
+    ensures { λ r. ⌜ r ≡ (pointOutside (pointOf (drop (8 * j) (now (curve .entry)))) || (ltb 0 j && fallsOf (pointOf (drop (8 * (j - 1)) (now (curve .entry))) ∷ pointOf (drop (8 * j) (now (curve .entry))) ∷ []))) ⌝ }
+{
+    if point_outside(&curve[POINT_BYTES * j..]) {
+        return true;
+    }
+    if j == 0 {
+        return false;
+    }
+    falls(&curve[POINT_BYTES * (j - 1)..], &curve[POINT_BYTES * j..])
+}
+
+// Grounds 13 and 14, of tables that lie within the file: all rows are tested for 13 before any for 14.
+pub fn scan(file: &[u8]) -> u32
+    requires { ⌜ 40 ≤ length (now file) ⌝ }
+    requires { ⌜ headerOf (now file) .rowCount ≤ 512 ⌝ }
+    requires { ⌜ headerOf (now file) .pointCount ≤ 2048 ⌝ }
+    requires { ⌜ headerOf (now file) .rowsOffset + 56 * headerOf (now file) .rowCount ≤ length (now file) ⌝ }
+    requires { ⌜ headerOf (now file) .pointsOffset + 8 * headerOf (now file) .pointCount ≤ length (now file) ⌝ }
+    ensures { λ r. ⌜ r ≡ answered ((any rowOutside (rowsOf (now (file .entry))), 13) ∷ (any (pointsOutside (headerOf (now (file .entry)) .pointCount)) (rowsOf (now (file .entry))), 14) ∷ []) ⌝ }
+{
+    let rows = word(file, ROWS) as usize;
+    let first = word(file, ROWS_OFFSET) as usize;
+    let points = word(file, POINTS);
+    let table = word(file, POINTS_OFFSET) as usize;
+    let ground = 'scan: loop {
+        let mut i = 0;
+        while i < rows {
+            if row_outside(&file[first + ROW_BYTES * i..]) {
+                break 'scan 13;
+            }
+            i += 1;
+        }
+        let mut k = 0;
+        while k < rows {
+            let row = first + ROW_BYTES * k;
+            if curve_misplaced(&file[row..], points) {
+                break 'scan 14;
+            }
+            let count = word(&file[row..], POINT_COUNT) as usize;
+            let curve = table + POINT_BYTES * word(&file[row..], FIRST_POINT) as usize;
+            let mut j = 0;
+            while j < count {
+                if point_refused(&file[curve..], j) {
+                    break 'scan 14;
+                }
+                j += 1;
+            }
+            k += 1;
+        }
+        break 'scan 0;
+    };
+    ground
 }
