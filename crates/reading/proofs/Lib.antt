@@ -3,3 +3,8 @@ pub mod Figures
 pub mod Bounds
 pub mod Order
 pub mod BlockTests
+pub mod FileTests
+pub mod RowTests
+pub mod Tables
+pub mod CurveTests
+pub mod Walk

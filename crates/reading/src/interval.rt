@@ -3,12 +3,48 @@
 use words::signed;
 use words::word32;
 ghost use mathlib.Core.Path.{_≡_};
-ghost use Prim.Native.Nat.{_+_, _*_, _≤_, _<_, _^_};
-ghost use lib.ListN.{length};
+ghost use mathlib.Core.List.{_∷_, [], map};
+ghost use mathlib.Core.Bool.{not, _||_, _&&_};
+ghost use Prim.Native.Nat.{_+_, _-_, _*_, _≤_, _<_, _^_};
+ghost use lib.ListN.{length, drop};
+ghost use lib.Dec.{ltb};
 ghost use lib.Signed.{mag};
+ghost use Rattle.words.specs.Lists.{any};
 ghost use Rattle.words.specs.Words.{word32 as wordOf, signed as signedOf};
+ghost use Rattle.words.specs.Grounds.{answered, beyond as beyondOf, liesFrom, overlap};
+ghost use Rattle.reading.specs.Interval.{headerOf, rowAt, rowsOf, pointOf, notAFile, headerOutside, tablesMisplaced, rowOutside, pointOutside, falls as fallsOf, pointsOutside};
+
+const HEADER_BYTES: usize = 40;
+
+const MOST_BYTES: usize = 49152;
+
+const FILE_FORMAT: u64 = 1;
+
+const INTERVALS_PER_DAY: u64 = 288;
+
+const MOST_IMPORTS: u64 = 40000000;
+
+const MOST_ROWS: u64 = 512;
+
+const MOST_POINTS: u64 = 2048;
+
+const ROW_BYTES: usize = 56;
+
+const POINT_BYTES: usize = 8;
+
+const MOST_ROW_POINTS: u64 = 10;
+
+const LAST_KIND: u64 = 4;
+
+const ENERGY_ONLY: u64 = 4;
+
+const MOST_KILOWATTS: u64 = 4000000;
+
+const MOST_PRICE: u64 = 1000000;
 
 // Words of the header.
+pub const FORMAT: usize = 0;
+
 pub const INTERVAL: usize = 1;
 
 pub const NET_CONE: usize = 2;
@@ -77,4 +113,255 @@ pub fn signed_word(part: &[u8], k: usize) -> i64
     ensures { λ r. ⌜ mag r < 2 ^ 31 ⌝ }
 {
     signed(word(part, k))
+}
+
+// Whether word k of a part of a file, as a signed number, lies outside -most to most.
+fn beyond(part: &[u8], k: usize, most: u64) -> bool
+    requires { ⌜ 4 * k + 4 ≤ length (now part) ⌝ }
+    ensures { λ r. ⌜ r ≡ beyondOf most (signedOf (wordOf (now (part .entry)) k)) ⌝ }
+{
+    let w = word(part, k);
+    if w < 0x8000_0000 {
+        return most < w;
+    }
+    most < 0x1_0000_0000 - w
+}
+
+// Ground 7.
+pub fn not_a_file(file: &[u8]) -> bool
+    ensures { λ r. ⌜ r ≡ notAFile (now (file .entry)) ⌝ }
+{
+    if file.len() < HEADER_BYTES {
+        return true;
+    }
+    if MOST_BYTES < file.len() {
+        return true;
+    }
+    word(file, FORMAT) != FILE_FORMAT
+}
+
+// Ground 9.
+pub fn header_outside(file: &[u8]) -> bool
+    requires { ⌜ 40 ≤ length (now file) ⌝ }
+    ensures { λ r. ⌜ r ≡ headerOutside (headerOf (now (file .entry))) ⌝ }
+{
+    let end = INTERVALS_PER_DAY * word(file, DAYS);
+    if end <= word(file, INTERVAL) {
+        return true;
+    }
+    if 1 < word(file, REGION_WIDE) {
+        return true;
+    }
+    beyond(file, IMPORTS, MOST_IMPORTS)
+}
+
+// Whether so many bytes at an offset leave bytes 40 to the file's end.
+fn leaves(file: &[u8], at: u64, bytes: u64) -> bool
+    requires { ⌜ at < 4294967296 ⌝ }
+    requires { ⌜ bytes < 4294967296 ⌝ }
+    ensures { λ r. ⌜ r ≡ not (liesFrom 40 (length (now (file .entry))) at bytes) ⌝ }
+{
+    if at < HEADER_BYTES as u64 {
+        return true;
+    }
+    (file.len() as u64) < at + bytes
+}
+
+// Whether two stretches of m and n bytes share a byte.
+fn share(a: u64, m: u64, b: u64, n: u64) -> bool
+    requires { ⌜ a + m < 8589934592 ⌝ }
+    requires { ⌜ b + n < 8589934592 ⌝ }
+    ensures { λ r. ⌜ r ≡ overlap a m b n ⌝ }
+{
+    if m == 0 {
+        return false;
+    }
+    if n == 0 {
+        return false;
+    }
+    if b + n <= a {
+        return false;
+    }
+    b < a + m
+}
+
+// Ground 11. The numbers are tested first, so that the tables' sizes are small.
+pub fn tables_misplaced(file: &[u8]) -> bool
+    requires { ⌜ 40 ≤ length (now file) ⌝ }
+    ensures { λ r. ⌜ r ≡ tablesMisplaced (now (file .entry)) ⌝ }
+{
+    let rows = word(file, ROWS);
+    if rows < 1 {
+        return true;
+    }
+    if MOST_ROWS < rows {
+        return true;
+    }
+    let points = word(file, POINTS);
+    if MOST_POINTS < points {
+        return true;
+    }
+    let a = word(file, ROWS_OFFSET);
+    let m = ROW_BYTES as u64 * rows;
+    if leaves(file, a, m) {
+        return true;
+    }
+    let b = word(file, POINTS_OFFSET);
+    let n = POINT_BYTES as u64 * points;
+    if leaves(file, b, n) {
+        return true;
+    }
+    share(a, m, b, n)
+}
+
+// Whether a word of a row that counts kW, and is not signed, is too high.
+fn kilowatts_outside(row: &[u8]) -> bool
+    requires { ⌜ 56 ≤ length (now row) ⌝ }
+    ensures { λ r. ⌜ r ≡ any (λ kw. ltb 4000000 kw) (map (wordOf (now (row .entry))) (2 ∷ 3 ∷ 6 ∷ 7 ∷ 8 ∷ 9 ∷ [])) ⌝ }
+{
+    if MOST_KILOWATTS < word(row, COMMITTED) {
+        return true;
+    }
+    if MOST_KILOWATTS < word(row, OWNED) {
+        return true;
+    }
+    if MOST_KILOWATTS < word(row, PLANNED) {
+        return true;
+    }
+    if MOST_KILOWATTS < word(row, FORCED) {
+        return true;
+    }
+    if MOST_KILOWATTS < word(row, MAXIMUM) {
+        return true;
+    }
+    MOST_KILOWATTS < word(row, MINIMUM)
+}
+
+// Ground 13, of the row at the front of a part of a file.
+pub fn row_outside(row: &[u8]) -> bool
+    requires { ⌜ 56 ≤ length (now row) ⌝ }
+    ensures { λ r. ⌜ r ≡ rowOutside (rowAt (now (row .entry)) []) ⌝ }
+{
+    let kind = word(row, KIND);
+    if LAST_KIND < kind {
+        return true;
+    }
+    if kilowatts_outside(row) {
+        return true;
+    }
+    if beyond(row, METERED, MOST_KILOWATTS) {
+        return true;
+    }
+    if beyond(row, ADJUSTMENT, MOST_KILOWATTS) {
+        return true;
+    }
+    if word(row, MAXIMUM) < word(row, MINIMUM) {
+        return true;
+    }
+    if 1 < word(row, ONLINE) {
+        return true;
+    }
+    if beyond(row, LMP, MOST_PRICE) {
+        return true;
+    }
+    if kind != ENERGY_ONLY {
+        return false;
+    }
+    0 < word(row, COMMITTED)
+}
+
+// Whether the points of the row at the front of a part of a file are too many, or reach beyond the table.
+fn curve_misplaced(row: &[u8], points: u64) -> bool
+    requires { ⌜ 56 ≤ length (now row) ⌝ }
+    ensures { λ r. ⌜ r ≡ (ltb 10 (wordOf (now (row .entry)) 13) || (ltb 0 (wordOf (now (row .entry)) 13) && ltb points (wordOf (now (row .entry)) 12 + wordOf (now (row .entry)) 13))) ⌝ }
+{
+    let count = word(row, POINT_COUNT);
+    if MOST_ROW_POINTS < count {
+        return true;
+    }
+    // with no points, the first of them is free
+    if count == 0 {
+        return false;
+    }
+    points < word(row, FIRST_POINT) + count
+}
+
+// Whether the point at the front of a part of a file is out of range.
+fn point_outside(point: &[u8]) -> bool
+    requires { ⌜ 8 ≤ length (now point) ⌝ }
+    ensures { λ r. ⌜ r ≡ pointOutside (pointOf (now (point .entry))) ⌝ }
+{
+    if beyond(point, PRICE, MOST_PRICE) {
+        return true;
+    }
+    MOST_KILOWATTS < word(point, KW)
+}
+
+// Whether the price or the kW falls from the point at the front of one part of a file to that of another.
+fn falls(point: &[u8], next: &[u8]) -> bool
+    requires { ⌜ 8 ≤ length (now point) ⌝ }
+    requires { ⌜ 8 ≤ length (now next) ⌝ }
+    ensures { λ r. ⌜ r ≡ fallsOf (pointOf (now (point .entry)) ∷ pointOf (now (next .entry)) ∷ []) ⌝ }
+{
+    if signed_word(next, PRICE) < signed_word(point, PRICE) {
+        return true;
+    }
+    word(next, KW) < word(point, KW)
+}
+
+// Whether point j of a curve is out of range, or falls from the one before it.
+fn point_refused(curve: &[u8], j: usize) -> bool
+    requires { ⌜ 8 * j + 8 ≤ length (now curve) ⌝ }
+    ensures { λ r. ⌜ r ≡ (pointOutside (pointOf (drop (8 * j) (now (curve .entry)))) || (ltb 0 j && fallsOf (pointOf (drop (8 * (j - 1)) (now (curve .entry))) ∷ pointOf (drop (8 * j) (now (curve .entry))) ∷ []))) ⌝ }
+{
+    if point_outside(&curve[POINT_BYTES * j..]) {
+        return true;
+    }
+    if j == 0 {
+        return false;
+    }
+    falls(&curve[POINT_BYTES * (j - 1)..], &curve[POINT_BYTES * j..])
+}
+
+// Grounds 13 and 14, of tables that lie within the file: all rows are tested for 13 before any for 14.
+pub fn scan(file: &[u8]) -> u32
+    requires { ⌜ 40 ≤ length (now file) ⌝ }
+    requires { ⌜ headerOf (now file) .rowCount ≤ 512 ⌝ }
+    requires { ⌜ headerOf (now file) .pointCount ≤ 2048 ⌝ }
+    requires { ⌜ headerOf (now file) .rowsOffset + 56 * headerOf (now file) .rowCount ≤ length (now file) ⌝ }
+    requires { ⌜ headerOf (now file) .pointsOffset + 8 * headerOf (now file) .pointCount ≤ length (now file) ⌝ }
+    ensures { λ r. ⌜ r ≡ answered ((any rowOutside (rowsOf (now (file .entry))), 13) ∷ (any (pointsOutside (headerOf (now (file .entry)) .pointCount)) (rowsOf (now (file .entry))), 14) ∷ []) ⌝ }
+{
+    let rows = word(file, ROWS) as usize;
+    let first = word(file, ROWS_OFFSET) as usize;
+    let points = word(file, POINTS);
+    let table = word(file, POINTS_OFFSET) as usize;
+    let ground = 'scan: loop {
+        let mut i = 0;
+        while i < rows {
+            if row_outside(&file[first + ROW_BYTES * i..]) {
+                break 'scan 13;
+            }
+            i += 1;
+        }
+        let mut k = 0;
+        while k < rows {
+            let row = first + ROW_BYTES * k;
+            if curve_misplaced(&file[row..], points) {
+                break 'scan 14;
+            }
+            let count = word(&file[row..], POINT_COUNT) as usize;
+            let curve = table + POINT_BYTES * word(&file[row..], FIRST_POINT) as usize;
+            let mut j = 0;
+            while j < count {
+                if point_refused(&file[curve..], j) {
+                    break 'scan 14;
+                }
+                j += 1;
+            }
+            k += 1;
+        }
+        break 'scan 0;
+    };
+    ground
 }

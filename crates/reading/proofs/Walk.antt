@@ -1,0 +1,192 @@
+-- What a walk over the rows of a file and their points, which stops at the first fault, tells of grounds 13 and 14.
+use Prim.Native.Nat.{ℕ, zero, suc, _+_, _-_, _*_, _≤_, _<_}
+use mathlib.Core.Path.{_≡_, refl, sym, ap, ap₂, _∙_}
+use mathlib.Core.List.{List, [], _∷_}
+use mathlib.Core.Bool.{Bool, true, false, _||_, _&&_}
+use native.Mathlib.Omega.{arith}
+use lib.ListN.{length, take, drop}
+use lib.Seq.{drop-drop}
+use borrow.Rule.Slice.PartAt.{part-to-end}
+use lib.Dec.{ltb}
+use lib.Signed.{ltZ}
+use borrow.Author.Tests.{lt-ltb}
+use Rattle.words.specs.Lists.{any}
+use Rattle.words.specs.Words.{word32, entries}
+use Rattle.words.specs.Grounds.{answered}
+use Rattle.words.proofs.Words.{length-entries}
+use Rattle.reading.specs.Interval.{rowBytes, pointBytes, Row, Point, headerOf, pointOf, rowAt, pointsFrom, rowOf, rowsOf, rowOutside, pointOutside, fallsAfter, falls, pointsOutside}
+use Rattle.reading.proofs.Tables.{entriesFrom, table-start, table-turn, table-end}
+use Rattle.reading.proofs.RowTests.{curve-free}
+use Rattle.reading.proofs.CurveTests.{or-false, or-assoc, misplaced, pointAt, refused}
+
+-- two alternatives, in which the tests of one member and those of the others are told apart
+or-apart : (x xs y ys : Bool) → ((x || xs) || (y || ys)) ≡ ((x || y) || (xs || ys))
+or-apart true xs y ys = refl
+or-apart false true true ys = refl
+or-apart false true false ys = refl
+or-apart false false y ys = refl
+
+or-then : (s t : Bool) → (s || t) ≡ ((s || false) || t)
+or-then true t = refl
+or-then false t = refl
+
+-- one point falls from none
+falls-short : (ps : List Point) → length ps ≤ 1 → falls ps ≡ false
+unfolding falls fallsAfter
+falls-short [] h = refl
+falls-short (p ∷ []) h = refl
+falls-short (p ∷ q ∷ ps) h = absurd (omega arith)
+
+-- a curve of n points
+module _ (n : ℕ) (c : List ℕ) where
+  -- the points from j on
+  abbrev pointsLeft : ℕ → List Point
+  pointsLeft = entriesFrom pointBytes pointOf n c
+
+  -- whether one of them is out of range or falls, the first of them from the one before it
+  unfoldable pub curveLeft : ℕ → Bool
+  curveLeft j = any pointOutside (pointsLeft j) || falls (pointsLeft (j - 1))
+
+  pub curve-start : (any pointOutside (entries pointBytes pointOf n c) || falls (entries pointBytes pointOf n c)) ≡ curveLeft 0
+  unfolding curveLeft
+  curve-start = ap (λ ps. any pointOutside ps || falls ps) (table-start pointBytes pointOf n c)
+
+  falls-turn : (j : ℕ) → j < n → falls (pointsLeft (j - 1)) ≡ ((ltb 0 j && falls (pointAt c (j - 1) ∷ pointAt c j ∷ [])) || falls (pointsLeft j))
+  unfolding falls fallsAfter
+  falls-turn zero h = refl
+  falls-turn (suc i) h =
+      let here : suc i - 1 ≡ i = omega arith in
+      let next : i + 1 ≡ suc i = omega arith in
+      let p = pointAt c i in
+      let q = pointAt c (suc i) in
+      let rest = pointsLeft (suc i + 1) in
+      let later : pointsLeft (suc i) ≡ q ∷ rest = table-turn pointBytes pointOf n c (suc i) h in
+      let both : pointsLeft i ≡ p ∷ q ∷ rest = table-turn pointBytes pointOf n c i (omega arith) ∙ ap (λ ps. p ∷ ps) (ap pointsLeft next ∙ later) in
+      rw (here, lt-ltb 0 (suc i) (omega arith)) (ap falls both ∙ or-then (ltZ (q .price) (p .price) || ltb (q .kw) (p .kw)) (fallsAfter q rest) ∙ ap (λ ps. falls (p ∷ q ∷ []) || falls ps) (sym later))
+
+  pub curve-turn : (j : ℕ) → j < n → curveLeft j ≡ (refused c j || curveLeft (j + 1))
+  unfolding curveLeft any
+  curve-turn j h =
+      let back : j + 1 - 1 ≡ j = omega arith in
+      ap₂ _||_ (ap (any pointOutside) (table-turn pointBytes pointOf n c j h)) (falls-turn j h)
+      ∙ or-apart (pointOutside (pointAt c j)) (any pointOutside (pointsLeft (j + 1))) (ltb 0 j && falls (pointAt c (j - 1) ∷ pointAt c j ∷ [])) (falls (pointsLeft j))
+      ∙ ap (λ k. refused c j || (any pointOutside (pointsLeft (j + 1)) || falls (pointsLeft k))) (sym back)
+
+  pub curve-end : (j : ℕ) → n ≤ j → curveLeft j ≡ false
+  unfolding curveLeft any falls fallsAfter
+  curve-end j h =
+      let most : length (pointsLeft (j - 1)) ≤ 1 = omega (arith, length-entries pointBytes pointOf (n - (j - 1)) (drop (pointBytes * (j - 1)) c)) in
+      ap₂ (λ ps t. any pointOutside ps || t) (table-end pointBytes pointOf n c j h) (falls-short (pointsLeft (j - 1)) most)
+
+-- a part of a file that goes to its end
+pub part-at : (f : List ℕ) (a at : ℕ) → a ≡ at → take (length f - a) (drop a f) ≡ drop at f
+part-at f a at e = part-to-end f a ∙ ap (λ k. drop k f) e
+
+-- the rows of a file f
+module _ (f : List ℕ) where
+  -- the part of the file that row k begins
+  abbrev pub rowPart : ℕ → List ℕ
+  rowPart k = drop (headerOf f .rowsOffset + rowBytes * k) f
+
+  -- the rows from k on
+  unfoldable pub rowsLeft : ℕ → List Row
+  rowsLeft = entriesFrom rowBytes (rowOf f) (headerOf f .rowCount) (drop (headerOf f .rowsOffset) f)
+
+  pub rows-start : rowsOf f ≡ rowsLeft 0
+  unfolding rowsOf rowsLeft
+  rows-start = table-start rowBytes (rowOf f) (headerOf f .rowCount) (drop (headerOf f .rowsOffset) f)
+
+  rows-turn : (k : ℕ) → k < headerOf f .rowCount → rowsLeft k ≡ rowOf f (rowPart k) ∷ rowsLeft (k + 1)
+  unfolding rowsLeft
+  rows-turn k h =
+      table-turn rowBytes (rowOf f) (headerOf f .rowCount) (drop (headerOf f .rowsOffset) f) k h
+      ∙ ap (λ b. rowOf f b ∷ entriesFrom rowBytes (rowOf f) (headerOf f .rowCount) (drop (headerOf f .rowsOffset) f) (k + 1)) (drop-drop (rowBytes * k) (headerOf f .rowsOffset) f)
+
+  rows-end : (k : ℕ) → headerOf f .rowCount ≤ k → rowsLeft k ≡ []
+  unfolding rowsLeft
+  rows-end k h = table-end rowBytes (rowOf f) (headerOf f .rowCount) (drop (headerOf f .rowsOffset) f) k h
+
+  -- what is answered of grounds 13 and 14
+  abbrev pub scanned : ℕ
+  scanned = answered ((any rowOutside (rowsOf f), 13) ∷ (any (pointsOutside (headerOf f .pointCount)) (rowsOf f), 14) ∷ [])
+
+  -- ground 13 depends on the rows from i on
+  module _ (i : ℕ) (left : any rowOutside (rowsOf f) ≡ any rowOutside (rowsLeft i)) where
+    row-turn : i < headerOf f .rowCount → any rowOutside (rowsOf f) ≡ (rowOutside (rowAt (rowPart i) []) || any rowOutside (rowsLeft (i + 1)))
+    unfolding any rowOf
+    row-turn h = left ∙ ap (any rowOutside) (rows-turn i h) ∙ ap (λ t. t || any rowOutside (rowsLeft (i + 1))) (curve-free (rowPart i) (pointsFrom f (word32 (rowPart i) 12)) [])
+
+    pub row-fails : i < headerOf f .rowCount → rowOutside (rowAt (rowPart i) []) ≡ true → scanned ≡ 13
+    unfolding answered
+    row-fails h e = rw (row-turn h, e)
+
+    pub row-passes : i < headerOf f .rowCount → rowOutside (rowAt (rowPart i) []) ≡ false → any rowOutside (rowsOf f) ≡ any rowOutside (rowsLeft (i + 1))
+    row-passes h e = rw (row-turn h, e)
+
+    pub rows-pass : headerOf f .rowCount ≤ i → any rowOutside (rowsOf f) ≡ false
+    unfolding any
+    rows-pass h = left ∙ ap (any rowOutside) (rows-end i h)
+
+  -- the points of row k: their number, and where in the file they begin
+  pub record Curve (k count at : ℕ) : Type 0 where
+    pub number : count ≡ word32 (rowPart k) 13
+    pub place : at ≡ headerOf f .pointsOffset + pointBytes * word32 (rowPart k) 12
+    pub room : pointBytes * count ≤ length f - at
+
+  pub curve-part : {k count at : ℕ} → Curve k count at → take (length f - at) (drop at f) ≡ pointsFrom f (word32 (rowPart k) 12)
+  unfolding pointsFrom
+  curve-part {k} {count} {at} r = part-at f at (headerOf f .pointsOffset + pointBytes * word32 (rowPart k) 12) (r .place)
+
+  -- no row fails ground 13, and ground 14 depends on the rows from k on
+  module _ (k : ℕ) (good : any rowOutside (rowsOf f) ≡ false) where
+    -- the points that row k begins with, and their number
+    abbrev pub rowCurve : List ℕ
+    rowCurve = pointsFrom f (word32 (rowPart k) 12)
+
+    abbrev pub rowPoints : ℕ
+    rowPoints = word32 (rowPart k) 13
+
+    abbrev fails : Row → Bool
+    fails = pointsOutside (headerOf f .pointCount)
+
+    pub fault-found : any fails (rowsOf f) ≡ true → scanned ≡ 14
+    unfolding answered
+    fault-found e = rw (good, e)
+
+    pub no-fault : any fails (rowsOf f) ≡ false → scanned ≡ 0
+    unfolding answered
+    no-fault e = rw (good, e)
+
+    module _ (left : any fails (rowsOf f) ≡ any fails (rowsLeft k)) where
+      points-turn : k < headerOf f .rowCount
+          → any fails (rowsOf f) ≡ ((misplaced rowPoints (word32 (rowPart k) 12) (headerOf f .pointCount) || curveLeft rowPoints rowCurve 0) || any fails (rowsLeft (k + 1)))
+      unfolding any rowOf rowAt pointsOutside
+      points-turn h =
+          let place = misplaced rowPoints (word32 (rowPart k) 12) (headerOf f .pointCount) in
+          let curve = entries pointBytes pointOf rowPoints rowCurve in
+          left
+          ∙ ap (any fails) (rows-turn k h)
+          ∙ ap (λ t. t || any fails (rowsLeft (k + 1)))
+          (or-assoc place (any pointOutside curve) (falls curve) ∙ ap (λ t. place || t) (curve-start rowPoints rowCurve))
+
+      pub curve-fails : k < headerOf f .rowCount → misplaced rowPoints (word32 (rowPart k) 12) (headerOf f .pointCount) ≡ true → scanned ≡ 14
+      curve-fails h e = fault-found (rw (points-turn h, e))
+
+      pub curve-begins : k < headerOf f .rowCount → misplaced rowPoints (word32 (rowPart k) 12) (headerOf f .pointCount) ≡ false
+          → any fails (rowsOf f) ≡ (curveLeft rowPoints rowCurve 0 || any fails (rowsLeft (k + 1)))
+      curve-begins h e = rw (points-turn h, e)
+
+      pub all-pass : headerOf f .rowCount ≤ k → scanned ≡ 0
+      unfolding any
+      all-pass h = no-fault (left ∙ ap (any fails) (rows-end k h))
+
+    -- and on the points of row k from j on
+    module _ (j : ℕ) (left : any fails (rowsOf f) ≡ (curveLeft rowPoints rowCurve j || any fails (rowsLeft (k + 1)))) where
+      pub point-fails : j < rowPoints → refused rowCurve j ≡ true → scanned ≡ 14
+      point-fails h e = fault-found (rw (left, curve-turn rowPoints rowCurve j h, e))
+
+      pub point-passes : j < rowPoints → refused rowCurve j ≡ false → any fails (rowsOf f) ≡ (curveLeft rowPoints rowCurve (j + 1) || any fails (rowsLeft (k + 1)))
+      point-passes h e = rw (left, curve-turn rowPoints rowCurve j h, e)
+
+      pub curve-passes : rowPoints ≤ j → any fails (rowsOf f) ≡ any fails (rowsLeft (k + 1))
+      curve-passes h = rw (left, curve-end rowPoints rowCurve j h)

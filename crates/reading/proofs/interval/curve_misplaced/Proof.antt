@@ -1,0 +1,42 @@
+-- `reading::interval::curve_misplaced` meets its contract. Each test is one of the ground.
+use mathlib.Core.Path.{sym, ap₂, _∙_}
+use Prim.Native.Nat.{_+_}
+use lib.Dec.{ltb}
+use Rattle.words.specs.Words.{word32}
+use Rattle.reading.proofs.CurveTests.{count-above, none-named, some-named}
+use borrow.Author.Needs.{needs}
+use native.Mathlib.Omega.{arith}
+use Rattle.reading.proofs.interval.curve_misplaced.Statement.{statement}
+use Rattle.reading.proofs.interval.curve_misplaced.Tie as tie
+
+word-requires : tie.Need-word-requires
+word-requires c κs = search needs
+
+returns : tie.Need-returns
+returns c =
+    let s = c .before .before .before in
+    let b = s .args .row .now in
+    sym (count-above (word32 b 13) (word32 b 12) (s .args .points) (omega arith))
+
+returns-2 : tie.Need-returns-2
+returns-2 c =
+    let s = c .before .before .before .before in
+    let b = s .args .row .now in
+    sym (none-named (word32 b 13) (word32 b 12) (s .args .points) (omega arith))
+
+word-requires-2 : tie.Need-word-requires-2
+word-requires-2 c κs = search needs
+
+add-result : tie.Need-add-result
+add-result c = search needs
+
+returns-3 : tie.Need-returns-3
+returns-3 c =
+    let s = c .before .before .before .before .before in
+    let b = s .args .row .now in
+    ap₂ (λ first count. ltb (s .args .points) (first + count)) (c .word2 .ensures .0) (c .before .before .before .word .ensures .0)
+    ∙ sym (some-named (word32 b 13) (word32 b 12) (s .args .points) (omega arith) (omega arith))
+
+pub curve-misplaced-spec : {M : Type 1} → statement M
+curve-misplaced-spec =
+    tie.close (tie.spec word-requires returns returns-2 word-requires-2 add-result returns-3)
