@@ -3,3 +3,5 @@ pub mod Figures
 pub mod Rules
 pub mod Limits
 pub mod Shares
+pub mod CurveNumbers
+pub mod CurveLaws

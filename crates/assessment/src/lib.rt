@@ -1,3 +1,4 @@
 // What the rules make of the rows of one interval.
 
+pub mod curve;
 pub mod units;
