@@ -4,3 +4,5 @@ pub mod Promises
 pub mod Limits
 pub mod Shares
 pub mod RuleLaws
+pub mod CurveNumbers
+pub mod CurveLaws

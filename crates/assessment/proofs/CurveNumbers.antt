@@ -1,0 +1,34 @@
+-- The numbers between two points of a curve: the LMP is at or above the price of one and below that of the next, and a share of a rise is at most the rise.
+use Prim.Native.Nat.{ℕ, _*_, _/_, _≤_, _<_}
+use mathlib.Core.Bool.{true, false}
+use mathlib.Core.Path.{_≡_}
+use native.Mathlib.Nat.{div-le-of-le-mul, mul-le-mul-right, mul-le-mul, le-of-lt}
+use native.Mathlib.Omega.{arith}
+use lib.IntN.{ℤ, natAbs, _-ℤ_}
+use lib.Signed.{leZ, mag}
+use Rattle.words.proofs.Ints.{natAbs-diff, gap-lt, gap-le, le-over, mag-between}
+
+-- a share of a rise is at most the rise
+pub share-le : {part whole : ℕ} (rise : ℕ) → part < whole → part * rise / whole ≤ rise
+share-le {part} {whole} rise h = div-le-of-le-mul whole (mul-le-mul-right rise (le-of-lt h))
+
+-- the product of two numbers of 32 bits fits
+pub product-le : (a b : ℕ) → a ≤ 4294967296 → b < 4294967296 → a * b ≤ 18446744069414584320
+product-le a b h k = let l : b ≤ 4294967295 = omega arith in omega (arith, mul-le-mul h l)
+
+-- prices p and q of 32 bits, with the LMP l at or above p and below q
+module _ (p l q : ℤ) (e : leZ p l ≡ true) (f : leZ q l ≡ false) (hp : mag p < 2147483648) (hq : mag q < 2147483648) where
+  -- the difference of LMP and lower price can be taken
+  pub part-fits : (leZ p l ≡ true) × ((mag l < 4611686018427387904) × (mag p < 4611686018427387904))
+  part-fits = (e, (omega (arith, mag-between 2147483648 p l q e f hp hq), omega arith))
+
+  -- and that of the two prices
+  pub whole-fits : (leZ p q ≡ true) × ((mag q < 4611686018427387904) × (mag p < 4611686018427387904))
+  whole-fits = (le-over p l q e f, (omega arith, omega arith))
+
+  -- the first is the smaller, so that the divisor is not 0
+  pub part-lt : natAbs (l -ℤ p) < natAbs (q -ℤ p)
+  part-lt = rw (natAbs-diff l p e, natAbs-diff q p (le-over p l q e f)) (gap-lt p l q e f)
+
+  pub whole-le : natAbs (q -ℤ p) ≤ 4294967296
+  whole-le = rw (natAbs-diff q p (le-over p l q e f)) (omega (arith, gap-le q p))
