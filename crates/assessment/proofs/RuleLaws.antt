@@ -2,7 +2,7 @@
 use Prim.Native.Nat.{ℕ, zero, suc, _-_, _*_, _/_, _≤_, _<_, min}
 use mathlib.Core.Path.{_≡_, refl}
 use mathlib.Core.Logic.{_⊎_, inl, inr, ⊎-elim}
-use mathlib.Core.Bool.{true, false, true≢false}
+use mathlib.Core.Bool.{true, false, cond, true≢false}
 use native.Mathlib.Nat.{mul-le-mul}
 use native.Mathlib.Decide.{decLe}
 use native.Mathlib.Omega.{arith}
@@ -10,8 +10,31 @@ use lib.IntN.{ℤ, pos, negsuc, natAbs}
 use lib.Dec.{T}
 use lib.Signed.{ltZ, nonNeg, mag}
 use borrow.Author.Tests.{eq-eqb, ne-eqb, ltb-true}
-use Rattle.reading.specs.Interval.{Row, Kind, generation, demand, efficiency, responsive, energyOnly, noKind, kindOf}
-use Rattle.assessment.specs.Assessment.{orZero, actual, scheduled, Ratio, portion, expectedAs, expected, bonusActualAs, bonus, outageAs, outage, economicRule, economicAs, economic, share}
+use Rattle.reading.specs.Interval.{Header, Row, Kind, generation, demand, efficiency, responsive, energyOnly, noKind, kindOf}
+use Rattle.assessment.specs.Assessment.{
+  orZero,
+  actual,
+  scheduled,
+  consideredAs,
+  considered,
+  ifConsidered,
+  Ratio,
+  portion,
+  expectedAs,
+  expected,
+  bonusActualAs,
+  bonus,
+  numeratorShareAs,
+  numeratorShare,
+  importShare,
+  denominatorShareAs,
+  outageAs,
+  outage,
+  economicRule,
+  economicAs,
+  economic,
+  share,
+}
 
 -- a number below 0 counts as 0
 pub negative : (z : ℤ) → ltZ z (pos 0) ≡ true → orZero z ≡ 0
@@ -24,6 +47,15 @@ pub not-negative : (z : ℤ) → ltZ z (pos 0) ≡ false → T (nonNeg z) × (na
 unfolding orZero
 not-negative (pos n) e = (tt, refl, omega arith)
 not-negative (negsuc n) e = absurd (true≢false e)
+
+-- the net imports of a file that is not region-wide, and of one that is
+pub imports-left : (h : Header) → (h .regionWide ≡ 1 → ⊥) → importShare h ≡ 0
+unfolding importShare
+imports-left h e = rw (ne-eqb (h .regionWide) 1 e)
+
+pub imports-counted : (h : Header) → h .regionWide ≡ 1 → importShare h ≡ orZero (h .imports)
+unfolding importShare
+imports-counted h e = rw (eq-eqb (h .regionWide) 1 e)
 
 -- a ratio without a denominator, and one with
 pub no-denominator : (n d whole : ℕ) → d ≡ 0 → portion (record { numerator = n; denominator = d }) whole ≡ 0
@@ -128,3 +160,48 @@ no-share cents total kw e = rw (eq-eqb total 0 e)
 pub some-share : (cents total kw : ℕ) → (total ≡ 0 → ⊥) → share cents total kw ≡ kw * cents / total
 unfolding share
 some-share cents total kw e = rw (ne-eqb total 0 e)
+
+-- what a row adds to the numerator, by the kind word
+module _ (r : Row) where
+  pub numerator-supply : (r .kind ≡ 0) ⊎ (r .kind ≡ 4) → numeratorShare r ≡ actual r
+  unfolding numeratorShare numeratorShareAs ifConsidered considered consideredAs
+  numerator-supply h = kind-supply (λ k. cond (consideredAs k r) (numeratorShareAs k r) 0 ≡ actual r) refl refl (r .kind) h
+
+  pub numerator-demand : r .kind ≡ 1 → numeratorShare r ≡ actual r - r .committed
+  unfolding numeratorShare numeratorShareAs ifConsidered considered consideredAs bonus bonusActualAs kindOf
+  numerator-demand e = rw e
+
+  pub numerator-considered : r .kind ≡ 3 → considered r ≡ true → numeratorShare r ≡ actual r - r .committed
+  unfolding numeratorShare numeratorShareAs ifConsidered bonus bonusActualAs kindOf
+  numerator-considered e c = rw (c, e)
+
+  pub numerator-not-considered : considered r ≡ false → numeratorShare r ≡ 0
+  unfolding numeratorShare ifConsidered
+  numerator-not-considered c = rw c
+
+  -- kind 2 and no kind
+  pub numerator-other : ((r .kind ≡ 0) ⊎ (r .kind ≡ 4) → ⊥) → (r .kind ≡ 1 → ⊥) → (r .kind ≡ 3 → ⊥) → numeratorShare r ≡ 0
+  unfolding numeratorShare numeratorShareAs ifConsidered considered consideredAs
+  numerator-other supply one three = by (decLe (r .kind) 2)
+    where
+      by : Dec (r .kind ≤ 2) → cond (consideredAs (kindOf (r .kind)) r) (numeratorShareAs (kindOf (r .kind)) r) 0 ≡ 0
+      by (yes h) =
+          let zero-not : r .kind ≡ 0 → ⊥ = λ e. supply (inl e) in
+          let two : r .kind ≡ 2 = omega arith in
+          rw two (unfold kindOf in refl)
+      by (no h) =
+          let four-not : r .kind ≡ 4 → ⊥ = λ e. supply (inr e) in
+          rw (kind-none (r .kind) (omega arith))
+
+  -- what a row adds to the denominator
+  pub denominator-generation : r .kind ≡ 0 → denominatorShareAs (kindOf (r .kind)) r ≡ r .committed
+  unfolding denominatorShareAs kindOf
+  denominator-generation e = rw e
+
+  pub denominator-other : (r .kind ≡ 0 → ⊥) → denominatorShareAs (kindOf (r .kind)) r ≡ 0
+  unfolding denominatorShareAs
+  denominator-other some = by (decLe (r .kind) 3)
+    where
+      by : Dec (r .kind ≤ 3) → denominatorShareAs (kindOf (r .kind)) r ≡ 0
+      by (yes h) = kind-reducing (λ k. denominatorShareAs k r ≡ 0) refl refl refl (r .kind) some (omega arith)
+      by (no h) = kind-high (λ k. denominatorShareAs k r ≡ 0) refl refl (r .kind) (omega arith)

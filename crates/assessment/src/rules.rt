@@ -1,15 +1,18 @@
 // The rules of a row and of a pool, each a function that gives what its definition gives.
 
+use crate::curve::considered;
 use crate::units::Cents;
 use crate::units::Kilowatts;
 use reading::interval::ADJUSTMENT;
 use reading::interval::COMMITTED;
 use reading::interval::FORCED;
+use reading::interval::IMPORTS;
 use reading::interval::KIND;
 use reading::interval::MAXIMUM;
 use reading::interval::METERED;
 use reading::interval::OWNED;
 use reading::interval::PLANNED;
+use reading::interval::REGION_WIDE;
 use reading::interval::signed_word;
 use reading::interval::word;
 ghost use mathlib.Core.Path.{_≡_};
@@ -18,9 +21,13 @@ ghost use Prim.Native.Nat.{_+_, _-_, _*_, _≤_, _<_, _^_, min, max};
 ghost use lib.ListN.{length};
 ghost use lib.IntN.{_+ℤ_};
 ghost use lib.Signed.{mag};
-ghost use Rattle.reading.specs.Interval.{rowAt};
+ghost use Rattle.words.specs.Words.{word32};
+ghost use Rattle.reading.specs.Interval.{headerOf, rowAt, kindOf};
 ghost use Rattle.assessment.specs.Assessment.{
   orZero,
+  numeratorShare,
+  importShare,
+  denominatorShareAs,
   actual as actualOf,
   scheduled as scheduledOf,
   portion as portionOf,
@@ -69,6 +76,18 @@ fn above(a: u64, b: u64) -> u64
     a - b
 }
 
+// A number, or 0 if it is negative.
+fn or_zero(z: i64) -> u64
+    requires { ⌜ mag z < 2 ^ 33 ⌝ }
+    ensures { λ r. ⌜ r ≡ orZero z ⌝ }
+    ensures { λ r. ⌜ r ≤ mag z ⌝ }
+{
+    if z < 0 {
+        return 0;
+    }
+    z as u64
+}
+
 // The sum of two signed words, or 0 if it is negative.
 fn sum_or_zero(a: i64, b: i64) -> u64
     requires { ⌜ mag a < 2 ^ 31 ⌝ }
@@ -76,11 +95,7 @@ fn sum_or_zero(a: i64, b: i64) -> u64
     ensures { λ r. ⌜ r ≡ orZero (a +ℤ b) ⌝ }
     ensures { λ r. ⌜ r < 2 ^ 33 ⌝ }
 {
-    let sum = a + b;
-    if sum < 0 {
-        return 0;
-    }
-    sum as u64
+    or_zero(a + b)
 }
 
 // Actual: metered plus adjustment, or 0 if that is negative.
@@ -245,4 +260,60 @@ pub fn shortfall(
     ensures { λ r. ⌜ r .0 ≡ shortfallOf (rowAt (now (row .entry)) (now (points .entry))) (expect .0) ⌝ }
 {
     Kilowatts(above(expect.0, act.0 + out.0 + econ.0))
+}
+
+// What a demand or PRD row adds to the numerator: its bonus, of which the committed kW are expected.
+fn reduction(row: &[u8]) -> Kilowatts
+    requires { ⌜ 56 ≤ length (now row) ⌝ }
+    ensures { λ r. ⌜ r .0 ≡ actualOf (rowAt (now (row .entry)) []) - rowAt (now (row .entry)) [] .committed ⌝ }
+    ensures { λ r. ⌜ r .0 < 2 ^ 33 ⌝ }
+{
+    let given = actual(row);
+    Kilowatts(above(given.0, word(row, COMMITTED)))
+}
+
+// What a row adds to the numerator, by the kind word.
+pub fn numerator_share(row: &[u8], points: &[u8]) -> Kilowatts
+    requires { ⌜ 56 ≤ length (now row) ⌝ }
+    requires { ⌜ 8 * word32 (now row) 13 ≤ length (now points) ⌝ }
+    ensures { λ r. ⌜ r .0 ≡ numeratorShare (rowAt (now (row .entry)) (now (points .entry))) ⌝ }
+    ensures { λ r. ⌜ r .0 < 2 ^ 33 ⌝ }
+{
+    let kind = word(row, KIND);
+    match kind {
+        0 | 4 => actual(row),
+        1 => reduction(row),
+        3 => {
+            if considered(row, points) {
+                return reduction(row);
+            }
+            Kilowatts(0)
+        }
+        _ => Kilowatts(0),
+    }
+}
+
+// What a row adds to the denominator, by the kind word.
+pub fn denominator_share(row: &[u8]) -> Kilowatts
+    requires { ⌜ 56 ≤ length (now row) ⌝ }
+    ensures { λ r. ⌜ r .0 ≡ denominatorShareAs (kindOf (rowAt (now (row .entry)) [] .kind)) (rowAt (now (row .entry)) []) ⌝ }
+    ensures { λ r. ⌜ r .0 < 2 ^ 32 ⌝ }
+{
+    let kind = word(row, KIND);
+    match kind {
+        0 => Kilowatts(word(row, COMMITTED)),
+        _ => Kilowatts(0),
+    }
+}
+
+// What the net imports add to the numerator: only when region-wide, if positive.
+pub fn import_share(file: &[u8]) -> Kilowatts
+    requires { ⌜ 40 ≤ length (now file) ⌝ }
+    ensures { λ r. ⌜ r .0 ≡ importShare (headerOf (now (file .entry))) ⌝ }
+    ensures { λ r. ⌜ r .0 < 2 ^ 33 ⌝ }
+{
+    if word(file, REGION_WIDE) != 1 {
+        return Kilowatts(0);
+    }
+    Kilowatts(or_zero(signed_word(file, IMPORTS)))
 }

@@ -8,3 +8,4 @@ pub mod RowTests
 pub mod Tables
 pub mod CurveTests
 pub mod Walk
+pub mod RowParts

@@ -96,13 +96,13 @@ module _ (f : List ℕ) where
   unfolding rowsOf rowsLeft
   rows-start = table-start rowBytes (rowOf f) (headerOf f .rowCount) (drop (headerOf f .rowsOffset) f)
 
-  rows-turn : (k : ℕ) → k < headerOf f .rowCount → rowsLeft k ≡ rowOf f (rowPart k) ∷ rowsLeft (k + 1)
+  pub rows-turn : (k : ℕ) → k < headerOf f .rowCount → rowsLeft k ≡ rowOf f (rowPart k) ∷ rowsLeft (k + 1)
   unfolding rowsLeft
   rows-turn k h =
       table-turn rowBytes (rowOf f) (headerOf f .rowCount) (drop (headerOf f .rowsOffset) f) k h
       ∙ ap (λ b. rowOf f b ∷ entriesFrom rowBytes (rowOf f) (headerOf f .rowCount) (drop (headerOf f .rowsOffset) f) (k + 1)) (drop-drop (rowBytes * k) (headerOf f .rowsOffset) f)
 
-  rows-end : (k : ℕ) → headerOf f .rowCount ≤ k → rowsLeft k ≡ []
+  pub rows-end : (k : ℕ) → headerOf f .rowCount ≤ k → rowsLeft k ≡ []
   unfolding rowsLeft
   rows-end k h = table-end rowBytes (rowOf f) (headerOf f .rowCount) (drop (headerOf f .rowsOffset) f) k h
 
