@@ -138,6 +138,7 @@ module _ (lmp : ℤ) where
 
   -- where so many points are left from the last one reached on
   module _ (n : ℕ) (b : List ℕ) (rest : ℕ) (left : rest ≡ length (fromLastReached lmp (entries 8 pointOf n b))) where
+    -- they are no more than there are
     pub left-le : rest ≤ n
     left-le = omega (arith, left, found-end (entries 8 pointOf n b) .count, length-entries 8 pointOf n b)
 
@@ -150,6 +151,7 @@ module _ (lmp : ℤ) where
         let from : f .place ≡ n - rest = omega arith in
         f .is ∙ ap (λ k. drop (f .place) (entries 8 pointOf k b)) all ∙ table-drop (f .place) rest b ∙ ap (λ k. tableFrom k rest b) from
 
+    -- none; one and those after it; two and those after them
     left-none : rest ≡ 0 → fromLastReached lmp (entries 8 pointOf n b) ≡ []
     unfolding entries
     left-none z = left-is ∙ ap (λ k. tableFrom (n - rest) k b) z

@@ -68,6 +68,7 @@ fn above(points: &[u8], i: usize, lmp: i64) -> bool
 }
 
 // How many of n points are left from the last one priced at or below the LMP on; 0 if there is none.
+// The search goes down from the final point, so that the first one met is the last of equal prices too.
 fn points_left(points: &[u8], n: usize, lmp: i64) -> usize
     requires { ⌜ 8 * n ≤ length (now points) ⌝ }
     ensures { λ r. ⌜ r ≡ length (fromLastReached lmp (entries pointBytes pointOf n (now (points .entry)))) ⌝ }
@@ -82,7 +83,7 @@ fn points_left(points: &[u8], n: usize, lmp: i64) -> usize
     0
 }
 
-// How far a stands above b.
+// How far a stands above b: a difference of signed numbers that is not negative.
 fn gap(a: i64, b: i64) -> u64
     requires { ⌜ leZ b a ≡ true ⌝ }
     requires { ⌜ mag a < 2 ^ 62 ⌝ }
@@ -92,7 +93,7 @@ fn gap(a: i64, b: i64) -> u64
     (a - b) as u64
 }
 
-// a - b, or 0 where b is the larger.
+// a - b, or 0 where b is the larger: no order of the points is asked for.
 fn rise(a: u64, b: u64) -> u64
     ensures { λ r. ⌜ r ≡ a - b ⌝ }
 {
@@ -112,6 +113,7 @@ fn along(base: u64, part: u64, rise: u64, whole: u64) -> u64
 }
 
 // On from point i, the last one reached, towards the next in proportion to price.
+// The next is priced above the LMP, so that the divisor is not 0.
 fn towards(points: &[u8], i: usize, lmp: i64) -> u64
     requires { ⌜ 8 * i + 16 ≤ length (now points) ⌝ }
     requires { ⌜ leZ (pointOf (drop (pointBytes * i) (now points)) .price) lmp ≡ true ⌝ }
@@ -212,16 +214,13 @@ pub fn considered(row: &[u8], points: &[u8]) -> bool
     requires { ⌜ 8 * word32 (now row) 13 ≤ length (now points) ⌝ }
     ensures { λ r. ⌜ r ≡ consideredBy (rowAt (now (row .entry)) (now (points .entry))) ⌝ }
 {
+    let n = word(row, POINT_COUNT) as usize;
+    let lmp = signed_word(row, LMP);
     match word(row, KIND) {
         0 => true,
         1 => true,
         2 => true,
-        3 => 0
-            < last_kw(
-                points,
-                word(row, POINT_COUNT) as usize,
-                signed_word(row, LMP),
-            ),
+        3 => 0 < last_kw(points, n, lmp),
         4 => true,
         _ => false,
     }

@@ -6,79 +6,78 @@ use lib.Dec.{ltb}
 use lib.IntN.{ℤ}
 use mir.Syntax.{w64}
 use mir.Val.{toZ, ofZ}
-use Rattle.words.specs.Words.{word32, signed, entries}
+use Rattle.words.specs.Words.{entries}
 use Rattle.words.proofs.Ints.{plain}
-use Rattle.reading.specs.Interval.{rowAt, pointOf, kindOf, generation, demand, efficiency, responsive, energyOnly, noKind}
+use Rattle.reading.specs.Interval.{Row, rowAt, pointOf, kindOf, generation, demand, efficiency, responsive, energyOnly, noKind}
 use Rattle.assessment.specs.Assessment.{fromLastReached, firstKw, consideredAs}
 use Rattle.assessment.proofs.CurveLaws.{considered-as, no-kind}
 use Rattle.assessment.proofs.curve.considered.Statement.{statement}
 use Rattle.assessment.proofs.curve.considered.Tie as tie
 
+-- the row, and its words once they are read
+abbrev row : tie.After-word → Row
+row c = let a = c .before .before .before .args in rowAt (a .row .now) (a .points .now)
+
+lmp-is : (c : tie.After-signed-word) → toZ w64 (ofZ w64 (c .signed-word .result)) ≡ row (c .before) .lmp
+unfolding rowAt
+lmp-is c = plain (c .signed-word .result) (omega (arith, c .signed-word .ensures .1)) ∙ c .signed-word .ensures .0
+
+kind-is : (c : tie.After-word2) → row (c .before .before) .kind ≡ c .word2 .result
+unfolding rowAt
+kind-is c = sym (c .word2 .ensures .0)
+
 word-requires : tie.Need-word-requires
 word-requires c κs = search needs
 
-word-requires-2 : tie.Need-word-requires-2
-word-requires-2 c κs = search needs
-
 signed-word-requires : tie.Need-signed-word-requires
 signed-word-requires c κs = search needs
+
+word-requires-2 : tie.Need-word-requires-2
+word-requires-2 c κs = search needs
 
 last-kw-requires : tie.Need-last-kw-requires
 last-kw-requires c κs = search needs
 
 returns : tie.Need-returns
-unfolding rowAt kindOf consideredAs
-returns c =
-    let a = c .before .before .before .before .args in
-    considered-as (rowAt (a .row .now) (a .points .now)) 0 generation (sym (c .before .word .ensures .0) ∙ c .match .keys1) refl
+unfolding kindOf consideredAs
+returns c = considered-as (row (c .before .before .before)) 0 generation (kind-is (c .before) ∙ c .match .keys1) refl
 
 returns-2 : tie.Need-returns-2
-unfolding rowAt kindOf consideredAs
-returns-2 c =
-    let a = c .before .before .before .before .args in
-    considered-as (rowAt (a .row .now) (a .points .now)) 1 demand (sym (c .before .word .ensures .0) ∙ c .match .keys2) refl
+unfolding kindOf consideredAs
+returns-2 c = considered-as (row (c .before .before .before)) 1 demand (kind-is (c .before) ∙ c .match .keys2) refl
 
 returns-3 : tie.Need-returns-3
-unfolding rowAt kindOf consideredAs
-returns-3 c =
-    let a = c .before .before .before .before .args in
-    considered-as (rowAt (a .row .now) (a .points .now)) 2 efficiency (sym (c .before .word .ensures .0) ∙ c .match .keys3) refl
+unfolding kindOf consideredAs
+returns-3 c = considered-as (row (c .before .before .before)) 2 efficiency (kind-is (c .before) ∙ c .match .keys3) refl
 
 returns-4 : tie.Need-returns-4
 unfolding rowAt kindOf consideredAs
 returns-4 c =
-    let l = c .before .signed-word in
-    let m = c .before .before .before in
-    let a = m .before .before .before .before .args in
-    let b = a .points .now in
-    let lmp : toZ w64 (ofZ w64 (l .result)) ≡ signed (word32 (a .row .now) 11) = plain (l .result) (omega (arith, l .ensures .1)) ∙ l .ensures .0 in
-    let n = c .before .before .word2 .result in
-    let by-lmp = ap (λ (z : ℤ). firstKw (fromLastReached z (entries 8 pointOf n b))) lmp in
-    let by-count = ap (λ k. firstKw (fromLastReached (signed (word32 (a .row .now) 11)) (entries 8 pointOf k b))) (c .before .before .word2 .ensures .0) in
-    ap (ltb 0) (c .last-kw .ensures ∙ by-lmp ∙ by-count)
-    ∙ considered-as (rowAt (a .row .now) b) 3 responsive (sym (m .before .word .ensures .0) ∙ m .match .keys4) refl
+    let k = c .before .before in
+    let w = k .before .before in
+    let b = w .before .before .before .args .points .now in
+    let by-lmp = ap (λ (z : ℤ). firstKw (fromLastReached z (entries 8 pointOf (w .word .result) b))) (lmp-is (k .before)) in
+    let by-count = ap (λ n. firstKw (fromLastReached (row w .lmp) (entries 8 pointOf n b))) (w .word .ensures .0) in
+    ap (ltb 0) (c .last-kw .ensures ∙ by-lmp ∙ by-count) ∙ considered-as (row w) 3 responsive (kind-is k ∙ c .before .match .keys4) refl
 
 returns-5 : tie.Need-returns-5
-unfolding rowAt kindOf consideredAs
-returns-5 c =
-    let a = c .before .before .before .before .args in
-    considered-as (rowAt (a .row .now) (a .points .now)) 4 energyOnly (sym (c .before .word .ensures .0) ∙ c .match .keys5) refl
+unfolding kindOf consideredAs
+returns-5 c = considered-as (row (c .before .before .before)) 4 energyOnly (kind-is (c .before) ∙ c .match .keys5) refl
 
 returns-6 : tie.Need-returns-6
-unfolding rowAt consideredAs
+unfolding consideredAs
 returns-6 c =
-    let a = c .before .before .before .before .args in
+    let k = c .before .word2 .result in
     let n = c .match .rest in
-    considered-as (rowAt (a .row .now) (a .points .now)) (c .before .word .result) noKind (sym (c .before .word .ensures .0))
-    (no-kind (c .before .word .result) (n .0 .0 .0 .0 .1) (n .0 .0 .0 .1) (n .0 .0 .1) (n .0 .1) (n .1))
+    considered-as (row (c .before .before .before)) k noKind (kind-is (c .before)) (no-kind k (n .0 .0 .0 .0 .1) (n .0 .0 .0 .1) (n .0 .0 .1) (n .0 .1) (n .1))
 
 pub considered-spec : {M : Type 1} → statement M
 considered-spec =
     tie.close
     (tie.spec
     word-requires
-    word-requires-2
     signed-word-requires
+    word-requires-2
     last-kw-requires
     returns
     returns-2
