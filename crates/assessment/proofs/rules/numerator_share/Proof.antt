@@ -1,4 +1,4 @@
--- `assessment::rules::numerator_share` meets its contract. One arm for kinds 0 and 4, one for kinds 1 to 3, one for the rest.
+-- `assessment::rules::numerator_share` meets its contract. One arm for kinds 0 and 4, one for kind 1, one for kind 3 with its test, one for the rest.
 use mathlib.Core.Path.{sym, _∙_}
 use mathlib.Core.Logic.{⊎-elim, inl, inr}
 use native.Mathlib.Omega.{arith}
