@@ -6,3 +6,4 @@ pub mod Shares
 pub mod RuleLaws
 pub mod CurveNumbers
 pub mod CurveLaws
+pub mod SumLaws

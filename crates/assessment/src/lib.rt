@@ -2,4 +2,5 @@
 
 pub mod curve;
 pub mod rules;
+pub mod sums;
 pub mod units;
