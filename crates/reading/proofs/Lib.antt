@@ -3,6 +3,7 @@ pub mod Figures
 pub mod Bounds
 pub mod Order
 pub mod BlockTests
+pub mod Bools
 pub mod FileTests
 pub mod RowTests
 pub mod Tables

@@ -14,21 +14,11 @@ use Rattle.words.specs.Lists.{any}
 use Rattle.words.specs.Words.{word32, entries}
 use Rattle.words.specs.Grounds.{answered}
 use Rattle.words.proofs.Words.{length-entries}
+use Rattle.reading.proofs.Bools.{or-assoc, or-apart, or-then}
 use Rattle.reading.specs.Interval.{rowBytes, pointBytes, Row, Point, headerOf, pointOf, rowAt, pointsFrom, rowOf, rowsOf, rowOutside, pointOutside, fallsAfter, falls, pointsOutside}
 use Rattle.reading.proofs.Tables.{entriesFrom, table-start, table-turn, table-end}
 use Rattle.reading.proofs.RowTests.{curve-free}
-use Rattle.reading.proofs.CurveTests.{or-false, or-assoc, misplaced, pointAt, refused}
-
--- two alternatives, in which the tests of one member and those of the others are told apart
-or-apart : (x xs y ys : Bool) → ((x || xs) || (y || ys)) ≡ ((x || y) || (xs || ys))
-or-apart true xs y ys = refl
-or-apart false true true ys = refl
-or-apart false true false ys = refl
-or-apart false false y ys = refl
-
-or-then : (s t : Bool) → (s || t) ≡ ((s || false) || t)
-or-then true t = refl
-or-then false t = refl
+use Rattle.reading.proofs.CurveTests.{misplaced, pointAt, refused}
 
 -- one point falls from none
 falls-short : (ps : List Point) → length ps ≤ 1 → falls ps ≡ false

@@ -5,15 +5,14 @@ use lib.Signed.{ltZ}
 use Rattle.words.proofs.Ints.{plain}
 use Rattle.reading.proofs.CurveTests.{price-falls, kilowatts-fall}
 use native.Mathlib.Omega.{arith}
-use borrow.Author.Needs.{needs}
 use Rattle.reading.proofs.interval.falls.Statement.{statement}
 use Rattle.reading.proofs.interval.falls.Tie as tie
 
 signed-word-requires : tie.Need-signed-word-requires
-signed-word-requires c κs = search needs
+signed-word-requires c κs = omega arith
 
 signed-word-requires-2 : tie.Need-signed-word-requires-2
-signed-word-requires-2 c κs = search needs
+signed-word-requires-2 c κs = omega arith
 
 returns : tie.Need-returns
 returns c =
@@ -22,10 +21,10 @@ returns c =
     sym (price-falls _ _ (ap₂ ltZ (sym (plain (a .result) (omega (arith, a .ensures .1)) ∙ a .ensures .0)) (sym (plain (b .result) (omega (arith, b .ensures .1)) ∙ b .ensures .0)) ∙ c .if1 .taken))
 
 word-requires : tie.Need-word-requires
-word-requires c κs = search needs
+word-requires c κs = omega arith
 
 word-requires-2 : tie.Need-word-requires-2
-word-requires-2 c κs = search needs
+word-requires-2 c κs = omega arith
 
 returns-2 : tie.Need-returns-2
 returns-2 c =
