@@ -69,7 +69,7 @@ module _ (n : ℕ) (c : List ℕ) where
       ap₂ (λ ps t. any pointOutside ps || t) (table-end pointBytes pointOf n c j h) (falls-short (pointsLeft (j - 1)) most)
 
 -- a part of a file that goes to its end
-pub part-at : (f : List ℕ) (a at : ℕ) → a ≡ at → take (length f - a) (drop a f) ≡ drop at f
+part-at : (f : List ℕ) (a at : ℕ) → a ≡ at → take (length f - a) (drop a f) ≡ drop at f
 part-at f a at e = part-to-end f a ∙ ap (λ k. drop k f) e
 
 -- the rows of a file f
@@ -77,6 +77,9 @@ module _ (f : List ℕ) where
   -- the part of the file that row k begins
   abbrev pub rowPart : ℕ → List ℕ
   rowPart k = drop (headerOf f .rowsOffset + rowBytes * k) f
+
+  pub row-part : (k : ℕ) {first : ℕ} → first ≡ headerOf f .rowsOffset → take (length f - (first + rowBytes * k)) (drop (first + rowBytes * k) f) ≡ rowPart k
+  row-part k {first} e = part-at f (first + rowBytes * k) (headerOf f .rowsOffset + rowBytes * k) (ap (λ at. at + rowBytes * k) e)
 
   -- the rows from k on
   unfoldable pub rowsLeft : ℕ → List Row

@@ -9,7 +9,7 @@ use Rattle.words.specs.Lists.{any}
 use Rattle.words.specs.Words.{word32}
 use Rattle.reading.specs.Interval.{Row, headerOf, rowAt, pointsFrom, rowsOf, rowOutside, pointsOutside}
 use Rattle.reading.proofs.CurveTests.{misplaced, points-within, refused}
-use Rattle.reading.proofs.Walk.{curveLeft, part-at, Curve, curve-part, rowPart, rowsLeft, rows-start, row-fails, row-passes, rows-pass, curve-fails, curve-begins, all-pass, point-fails, point-passes, curve-passes}
+use Rattle.reading.proofs.Walk.{curveLeft, Curve, curve-part, rowPart, row-part, rowsLeft, rows-start, row-fails, row-passes, rows-pass, curve-fails, curve-begins, all-pass, point-fails, point-passes, curve-passes}
 use Rattle.reading.proofs.interval.scan.Statement.{statement}
 use Rattle.reading.proofs.interval.scan.Tie as tie
 
@@ -23,7 +23,10 @@ abbrev μ-loop : tie.MeasureT-loop
 μ-loop file rows first points table i₀ i = rows - i
 
 abbrev Inv-loop3 : tie.InvT-loop3
-Inv-loop3 file rows first points table i k row count curve j₀ j = (j ≤ count) × Curve file k count curve × (faults file (rowsOf file) ≡ (curveLeft (word32 (rowPart file k) 13) (pointsFrom file (word32 (rowPart file k) 12)) j || faults file (rowsLeft file (k + 1))))
+Inv-loop3 file rows first points table i k row count curve j₀ j =
+    let b = rowPart file k in
+    (j ≤ count) × Curve file k count curve
+    × (faults file (rowsOf file) ≡ (curveLeft (word32 b 13) (pointsFrom file (word32 b 12)) j || faults file (rowsLeft file (k + 1))))
 
 abbrev μ-loop3 : tie.MeasureT-loop3
 μ-loop3 file rows first points table i k row count curve j₀ j = count - j
@@ -92,7 +95,7 @@ loop-again c =
     let w = l .before .before in
     let f = w .before .before .before .before .before .args .file .now in
     let i = l .loop .i in
-    let part = part-at f (w .before .before .word2 .result + 56 * i) (headerOf f .rowsOffset + 56 * i) (ap (λ o. o + 56 * i) (w .before .before .word2 .ensures .0)) in
+    let part = row-part f i (w .before .before .word2 .ensures .0) in
     let says = ap (λ b. rowOutside (rowAt b [])) (sym part) ∙ sym (c .before .row-outside .ensures) in
     (omega arith, row-passes f i (l .loop .inv .1) (omega arith) (says ∙ c .if1 .left))
 
@@ -166,7 +169,7 @@ loop3-holds c =
     let w = l .before .before .before .before in
     let f = w .before .before .before .before .before .args .file .now in
     let k = l .loop2 .k in
-    let part = part-at f (w .before .before .word2 .result + 56 * k) (headerOf f .rowsOffset + 56 * k) (ap (λ o. o + 56 * k) (w .before .before .word2 .ensures .0)) in
+    let part = row-part f k (w .before .before .word2 .ensures .0) in
     let says = ap₂ (λ b n. misplaced (word32 b 13) (word32 b 12) n) (sym part) (sym (w .before .word3 .ensures .0)) ∙ sym (c .before .before .before .before .before .curve-misplaced .ensures) in
     let in-place = says ∙ c .before .before .before .before .if2 .left in
     let number = c .before .before .word5 .ensures .0 ∙ ap (λ b. word32 b 13) part in
@@ -233,7 +236,7 @@ returns c =
     let w = l .before .before in
     let f = w .before .before .before .before .before .args .file .now in
     let i = l .loop .i in
-    let part = part-at f (w .before .before .word2 .result + 56 * i) (headerOf f .rowsOffset + 56 * i) (ap (λ o. o + 56 * i) (w .before .before .word2 .ensures .0)) in
+    let part = row-part f i (w .before .before .word2 .ensures .0) in
     let says = ap (λ b. rowOutside (rowAt b [])) (sym part) ∙ sym (c .before .row-outside .ensures) in
     sym (row-fails f i (l .loop .inv .1) (omega arith) (says ∙ c .if1 .taken))
 
@@ -244,7 +247,7 @@ returns-2 c =
     let w = l .before .before .before .before in
     let f = w .before .before .before .before .before .args .file .now in
     let k = l .loop2 .k in
-    let part = part-at f (w .before .before .word2 .result + 56 * k) (headerOf f .rowsOffset + 56 * k) (ap (λ o. o + 56 * k) (w .before .before .word2 .ensures .0)) in
+    let part = row-part f k (w .before .before .word2 .ensures .0) in
     let says = ap₂ (λ b n. misplaced (word32 b 13) (word32 b 12) n) (sym part) (sym (w .before .word3 .ensures .0)) ∙ sym (c .before .curve-misplaced .ensures) in
     sym (curve-fails f k (l .loop2 .inv .1) (l .loop2 .inv .2) (omega arith) (says ∙ c .if2 .taken))
 
