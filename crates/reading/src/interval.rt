@@ -281,7 +281,7 @@ fn curve_misplaced(row: &[u8], points: u64) -> bool
     if MOST_ROW_POINTS < count {
         return true;
     }
-    // with no points, the first of them is free
+    // Where there are no points, the first of them is free.
     if count == 0 {
         return false;
     }
@@ -331,8 +331,6 @@ fn point_refused(curve: &[u8], j: usize) -> bool
 // Grounds 13 and 14, of tables that lie within the file: all rows are tested for 13 before any for 14.
 pub fn scan(file: &[u8]) -> u32
     requires { ⌜ 40 ≤ length (now file) ⌝ }
-    requires { ⌜ headerOf (now file) .rowCount ≤ 512 ⌝ }
-    requires { ⌜ headerOf (now file) .pointCount ≤ 2048 ⌝ }
     requires { ⌜ headerOf (now file) .rowsOffset + 56 * headerOf (now file) .rowCount ≤ length (now file) ⌝ }
     requires { ⌜ headerOf (now file) .pointsOffset + 8 * headerOf (now file) .pointCount ≤ length (now file) ⌝ }
     ensures { λ r.
@@ -357,6 +355,7 @@ pub fn scan(file: &[u8]) -> u32
             if curve_misplaced(&file[row..], points) {
                 break 'scan 14;
             }
+            // The row's points are the part of the file that starts at the first of them.
             let count = word(&file[row..], POINT_COUNT) as usize;
             let curve = table + POINT_BYTES * word(&file[row..], FIRST_POINT) as usize;
             let mut j = 0;
