@@ -4,16 +4,15 @@ use mathlib.Core.Path.{_≡_, refl}
 use mathlib.Core.List.{List, [], _∷_}
 use mathlib.Core.Bool.{Bool, true, false, _||_, _&&_}
 use native.Mathlib.Omega.{arith}
+use borrow.Author.Tests.{lt-ltb, le-ltb, ltb-false}
 use lib.ListN.{drop}
 use lib.Dec.{ltb}
 use lib.Signed.{ltZ}
-use borrow.Author.Tests.{lt-ltb, le-ltb, ltb-false}
-use Rattle.words.specs.Lists.{any}
 use Rattle.words.specs.Words.{word32, signed}
 use Rattle.words.specs.Grounds.{beyond}
 use Rattle.words.proofs.Tests.{not-second}
-use Rattle.reading.proofs.Bools.{or-false}
 use Rattle.reading.specs.Interval.{pointBytes, mostRowPoints, mostKilowatts, mostPrice, Point, pointOf, pointOutside, fallsAfter, falls}
+use Rattle.reading.proofs.Bools.{or-false}
 
 -- the number of a row's points, and their place
 module _ (count first points : ℕ) where

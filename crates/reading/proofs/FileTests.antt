@@ -4,16 +4,16 @@ use mathlib.Core.Path.{_≡_, ap, _∙_}
 use mathlib.Core.List.{List}
 use mathlib.Core.Bool.{true, false, not}
 use native.Mathlib.Omega.{arith}
+use borrow.Author.Tests.{lt-ltb, le-ltb, le-leb, lt-leb}
 use lib.ListN.{length}
 use lib.IntN.{pos, natAbs, _-ℤ_}
 use lib.Dec.{ltb, eqb}
-use borrow.Author.Tests.{lt-ltb, le-ltb, le-leb, lt-leb}
 use Rattle.words.specs.Words.{word32, signed}
 use Rattle.words.specs.Grounds.{outside, beyond, liesFrom, overlap}
 use Rattle.words.proofs.Tests.{not-leb}
 use Rattle.words.proofs.Ints.{less-2^32}
-use Rattle.reading.proofs.Bools.{or-true}
 use Rattle.reading.specs.Interval.{headerBytes, mostFileBytes, intervalsPerDay, mostImports, mostRows, mostPoints, rowBytes, pointBytes, headerOf, notAFile, headerOutside, tablesMisplaced}
+use Rattle.reading.proofs.Bools.{or-true}
 
 -- how far a signed word lies from 0
 module _ (most w : ℕ) where
@@ -97,19 +97,18 @@ module _ (f : List ℕ) where
   unfolding tablesMisplaced headerOf
   points-many h = rw (lt-ltb mostPoints (word32 f 8) h, or-true)
 
-  -- the tables, by their offsets and numbers
-  module _ (a rows : ℕ) (offset : a ≡ word32 f 7) (number : rows ≡ word32 f 6) where
-    pub rows-leave : not (liesFrom headerBytes (length f) a (rowBytes * rows)) ≡ true → tablesMisplaced f ≡ true
-    unfolding tablesMisplaced headerOf
-    rows-leave h = rw (← offset, ← number, h, or-true)
+  pub rows-leave : (a rows : ℕ) → a ≡ word32 f 7 → rows ≡ word32 f 6 → not (liesFrom headerBytes (length f) a (rowBytes * rows)) ≡ true → tablesMisplaced f ≡ true
+  unfolding tablesMisplaced headerOf
+  rows-leave a rows offset number h = rw (← offset, ← number, h, or-true)
 
-    module _ (b points : ℕ) (offset′ : b ≡ word32 f 9) (number′ : points ≡ word32 f 8) where
-      pub points-leave : not (liesFrom headerBytes (length f) b (pointBytes * points)) ≡ true → tablesMisplaced f ≡ true
-      unfolding tablesMisplaced headerOf
-      points-leave h = rw (← offset′, ← number′, h, or-true)
+  pub points-leave : (b points : ℕ) → b ≡ word32 f 9 → points ≡ word32 f 8 → not (liesFrom headerBytes (length f) b (pointBytes * points)) ≡ true → tablesMisplaced f ≡ true
+  unfolding tablesMisplaced headerOf
+  points-leave b points offset number h = rw (← offset, ← number, h, or-true)
 
-      pub tables-left : 1 ≤ rows → rows ≤ mostRows → points ≤ mostPoints → not (liesFrom headerBytes (length f) a (rowBytes * rows)) ≡ false
-          → not (liesFrom headerBytes (length f) b (pointBytes * points)) ≡ false → tablesMisplaced f ≡ overlap a (rowBytes * rows) b (pointBytes * points)
-      unfolding tablesMisplaced outside headerOf
-      tables-left low high few lie lie′ =
-          rw (← offset, ← number, ← offset′, ← number′, le-ltb rows 1 low, le-ltb mostRows rows high, le-ltb mostPoints points few, lie, lie′)
+  -- where none of these fails, the tables are left to share a byte
+  module _ (a rows b points : ℕ) (rows-at : a ≡ word32 f 7) (rows-are : rows ≡ word32 f 6) (points-at : b ≡ word32 f 9) (points-are : points ≡ word32 f 8) where
+    pub tables-left : 1 ≤ rows → rows ≤ mostRows → points ≤ mostPoints → not (liesFrom headerBytes (length f) a (rowBytes * rows)) ≡ false
+        → not (liesFrom headerBytes (length f) b (pointBytes * points)) ≡ false → tablesMisplaced f ≡ overlap a (rowBytes * rows) b (pointBytes * points)
+    unfolding tablesMisplaced outside headerOf
+    tables-left low high few rows-lie points-lie =
+        rw (← rows-at, ← rows-are, ← points-at, ← points-are, le-ltb rows 1 low, le-ltb mostRows rows high, le-ltb mostPoints points few, rows-lie, points-lie)

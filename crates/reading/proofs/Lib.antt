@@ -1,9 +1,9 @@
 pub mod Computing
 pub mod Figures
 pub mod Bounds
+pub mod Bools
 pub mod Order
 pub mod BlockTests
-pub mod Bools
 pub mod FileTests
 pub mod RowTests
 pub mod Tables

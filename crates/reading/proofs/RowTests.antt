@@ -3,13 +3,13 @@ use Prim.Native.Nat.{ℕ, _≤_, _<_}
 use mathlib.Core.Path.{_≡_, refl}
 use mathlib.Core.List.{List, [], _∷_}
 use mathlib.Core.Bool.{true, false, _&&_}
-use lib.Dec.{ltb, eqb}
 use borrow.Author.Tests.{lt-ltb, le-ltb, eq-eqb, ne-eqb}
+use lib.Dec.{ltb, eqb}
 use Rattle.words.specs.Lists.{any}
 use Rattle.words.specs.Words.{word32, signed}
 use Rattle.words.specs.Grounds.{beyond}
-use Rattle.reading.proofs.Bools.{or-true, or-false}
 use Rattle.reading.specs.Interval.{lastKind, mostKilowatts, mostPrice, rowAt, rowOutside}
+use Rattle.reading.proofs.Bools.{or-true, or-false}
 
 -- the first of some numbers, above a bound or not
 module _ (most x : ℕ) (xs : List ℕ) where

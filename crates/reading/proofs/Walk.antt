@@ -4,18 +4,18 @@ use mathlib.Core.Path.{_≡_, refl, sym, ap, ap₂, _∙_}
 use mathlib.Core.List.{List, [], _∷_}
 use mathlib.Core.Bool.{Bool, true, false, _||_, _&&_}
 use native.Mathlib.Omega.{arith}
+use borrow.Rule.Slice.PartAt.{part-to-end}
+use borrow.Author.Tests.{lt-ltb}
 use lib.ListN.{length, take, drop}
 use lib.Seq.{drop-drop}
-use borrow.Rule.Slice.PartAt.{part-to-end}
 use lib.Dec.{ltb}
 use lib.Signed.{ltZ}
-use borrow.Author.Tests.{lt-ltb}
 use Rattle.words.specs.Lists.{any}
 use Rattle.words.specs.Words.{word32, entries}
 use Rattle.words.specs.Grounds.{answered}
 use Rattle.words.proofs.Words.{length-entries}
-use Rattle.reading.proofs.Bools.{or-assoc, or-apart, or-then}
 use Rattle.reading.specs.Interval.{rowBytes, pointBytes, Row, Point, headerOf, pointOf, rowAt, pointsFrom, rowOf, rowsOf, rowOutside, pointOutside, fallsAfter, falls, pointsOutside}
+use Rattle.reading.proofs.Bools.{or-assoc, or-apart, or-then}
 use Rattle.reading.proofs.Tables.{entriesFrom, table-start, table-turn, table-end}
 use Rattle.reading.proofs.RowTests.{curve-free}
 use Rattle.reading.proofs.CurveTests.{misplaced, pointAt, refused}

@@ -1,10 +1,10 @@
 -- `reading::interval::curve_misplaced` meets its contract. Each test is one of the ground.
-use mathlib.Core.Path.{sym, ap₂, _∙_}
 use Prim.Native.Nat.{_+_}
+use mathlib.Core.Path.{sym, ap₂, _∙_}
+use native.Mathlib.Omega.{arith}
 use lib.Dec.{ltb}
 use Rattle.words.specs.Words.{word32}
 use Rattle.reading.proofs.CurveTests.{count-above, none-named, some-named}
-use native.Mathlib.Omega.{arith}
 use Rattle.reading.proofs.interval.curve_misplaced.Statement.{statement}
 use Rattle.reading.proofs.interval.curve_misplaced.Tie as tie
 

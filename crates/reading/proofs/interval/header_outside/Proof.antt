@@ -1,7 +1,7 @@
 -- `reading::interval::header_outside` meets its contract. Each test is one of the ground.
 use mathlib.Core.Path.{sym, _∙_}
-use Rattle.reading.proofs.FileTests.{interval-late, region-above, imports-left}
 use native.Mathlib.Omega.{arith}
+use Rattle.reading.proofs.FileTests.{interval-late, region-above, imports-left}
 use Rattle.reading.proofs.interval.header_outside.Statement.{statement}
 use Rattle.reading.proofs.interval.header_outside.Tie as tie
 

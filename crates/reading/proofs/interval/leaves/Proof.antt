@@ -1,7 +1,7 @@
 -- `reading::interval::leaves` meets its contract. It begins too early, or ends too late.
 use mathlib.Core.Path.{sym}
-use Rattle.reading.proofs.FileTests.{table-early, table-late}
 use native.Mathlib.Omega.{arith}
+use Rattle.reading.proofs.FileTests.{table-early, table-late}
 use Rattle.reading.proofs.interval.leaves.Statement.{statement}
 use Rattle.reading.proofs.interval.leaves.Tie as tie
 

@@ -1,9 +1,9 @@
 -- `reading::interval::not_a_file` meets its contract. Each test is one of the ground.
 use mathlib.Core.Path.{sym, ap, _∙_}
 use mathlib.Core.Bool.{not}
+use native.Mathlib.Omega.{arith}
 use lib.Dec.{eqb}
 use Rattle.reading.proofs.FileTests.{file-short, file-long, file-format}
-use native.Mathlib.Omega.{arith}
 use Rattle.reading.proofs.interval.not_a_file.Statement.{statement}
 use Rattle.reading.proofs.interval.not_a_file.Tie as tie
 

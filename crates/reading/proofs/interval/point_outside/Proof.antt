@@ -1,8 +1,8 @@
 -- `reading::interval::point_outside` meets its contract. Each test is of one of its words.
 use mathlib.Core.Path.{sym, ap, _∙_}
+use native.Mathlib.Omega.{arith}
 use lib.Dec.{ltb}
 use Rattle.reading.proofs.CurveTests.{price-beyond, kilowatts-left}
-use native.Mathlib.Omega.{arith}
 use Rattle.reading.proofs.interval.point_outside.Statement.{statement}
 use Rattle.reading.proofs.interval.point_outside.Tie as tie
 

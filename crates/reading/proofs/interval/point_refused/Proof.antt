@@ -2,10 +2,10 @@
 use Prim.Native.Nat.{_*_, _-_}
 use mathlib.Core.Path.{sym, ap, ap₂, _∙_}
 use mathlib.Core.List.{_∷_, []}
-use Rattle.reading.specs.Interval.{pointOf, pointOutside, falls}
-use borrow.Rule.Slice.PartAt.{part-to-end}
-use Rattle.reading.proofs.CurveTests.{refused-outside, refused-first, refused-later}
 use native.Mathlib.Omega.{arith}
+use borrow.Rule.Slice.PartAt.{part-to-end}
+use Rattle.reading.specs.Interval.{pointOf, pointOutside, falls}
+use Rattle.reading.proofs.CurveTests.{refused-outside, refused-first, refused-later}
 use Rattle.reading.proofs.interval.point_refused.Statement.{statement}
 use Rattle.reading.proofs.interval.point_refused.Tie as tie
 
@@ -29,14 +29,16 @@ returns c =
     let s = c .before .before .before .before in
     let b = s .args .curve .now in
     let j = s .args .j in
-    sym (refused-outside b j (ap (λ p. pointOutside (pointOf p)) (sym (part-to-end b (8 * j))) ∙ sym (c .before .point-outside .ensures) ∙ c .if1 .taken))
+    let test = ap (λ p. pointOutside (pointOf p)) (sym (part-to-end b (8 * j))) ∙ sym (c .before .point-outside .ensures) ∙ c .if1 .taken in
+    sym (refused-outside b j test)
 
 returns-2 : tie.Need-returns-2
 returns-2 c =
     let s = c .before .before .before .before .before in
     let b = s .args .curve .now in
     let j = s .args .j in
-    sym (refused-first b j (ap (λ p. pointOutside (pointOf p)) (sym (part-to-end b (8 * j))) ∙ sym (c .before .before .point-outside .ensures) ∙ c .before .if1 .left) (omega arith))
+    let test = ap (λ p. pointOutside (pointOf p)) (sym (part-to-end b (8 * j))) ∙ sym (c .before .before .point-outside .ensures) ∙ c .before .if1 .left in
+    sym (refused-first b j test (omega arith))
 
 sub-falls : tie.Need-sub-falls
 sub-falls c = omega arith
@@ -73,9 +75,10 @@ returns-3 c =
     let s = c .before .before .before .before .before .before .before .before in
     let b = s .args .curve .now in
     let j = s .args .j in
+    let test = ap (λ p. pointOutside (pointOf p)) (sym (part-to-end b (8 * j))) ∙ sym (c .before .before .before .before .before .point-outside .ensures) ∙ c .before .before .before .before .if1 .left in
     c .falls .ensures
     ∙ ap₂ (λ p q. falls (pointOf p ∷ pointOf q ∷ [])) (part-to-end b (8 * (j - 1))) (part-to-end b (8 * j))
-    ∙ sym (refused-later b j (ap (λ p. pointOutside (pointOf p)) (sym (part-to-end b (8 * j))) ∙ sym (c .before .before .before .before .before .point-outside .ensures) ∙ c .before .before .before .before .if1 .left) (omega arith))
+    ∙ sym (refused-later b j test (omega arith))
 
 pub point-refused-spec : {M : Type 1} → statement M
 point-refused-spec =

@@ -1,8 +1,8 @@
 -- `reading::interval::row_outside` meets its contract. Each test is one of the ground.
 use mathlib.Core.Path.{sym, ap, _∙_}
+use native.Mathlib.Omega.{arith}
 use lib.Dec.{ltb}
 use Rattle.reading.proofs.RowTests.{Passes, kind-above, kilowatts-above, metered-beyond, adjustment-beyond, limits-crossed, online-above, lmp-beyond, other-kind, energy-only}
-use native.Mathlib.Omega.{arith}
 use Rattle.reading.proofs.interval.row_outside.Statement.{statement}
 use Rattle.reading.proofs.interval.row_outside.Tie as tie
 use Rattle.reading.proofs.interval.row_outside.Reads as reads

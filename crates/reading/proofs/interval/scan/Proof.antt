@@ -1,4 +1,4 @@
--- `reading::interval::scan` meets its contract. What is left to test is whether a row from i on fails ground 13, then whether a row from k on, or a point of row k from j on, fails ground 14.
+-- `reading::interval::scan` meets its contract. What is left to test are the rows from i on for ground 13, then those from k on, and in row k the points from j on, for 14.
 use Prim.Native.Nat.{ℕ, _+_, _-_, _*_, _≤_}
 use mathlib.Core.Path.{_≡_, sym, ap, ap₂, _∙_}
 use mathlib.Core.List.{List, []}

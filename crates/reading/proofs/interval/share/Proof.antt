@@ -1,7 +1,7 @@
 -- `reading::interval::share` meets its contract. Each test is one of the definition.
 use mathlib.Core.Path.{sym}
-use Rattle.reading.proofs.FileTests.{none-first, none-second, first-behind, second-behind}
 use native.Mathlib.Omega.{arith}
+use Rattle.reading.proofs.FileTests.{none-first, none-second, first-behind, second-behind}
 use Rattle.reading.proofs.interval.share.Statement.{statement}
 use Rattle.reading.proofs.interval.share.Tie as tie
 

@@ -1,7 +1,7 @@
 -- `reading::interval::tables_misplaced` meets its contract. Each test is one of the ground.
 use mathlib.Core.Path.{sym, _∙_}
-use Rattle.reading.proofs.FileTests.{rows-none, rows-many, points-many, rows-leave, points-leave, tables-left}
 use native.Mathlib.Omega.{arith}
+use Rattle.reading.proofs.FileTests.{rows-none, rows-many, points-many, rows-leave, points-leave, tables-left}
 use Rattle.reading.proofs.interval.tables_misplaced.Statement.{statement}
 use Rattle.reading.proofs.interval.tables_misplaced.Tie as tie
 
@@ -30,7 +30,9 @@ leaves-requires : tie.Need-leaves-requires
 leaves-requires c κs = omega arith
 
 returns-4 : tie.Need-returns-4
-returns-4 c = sym (rows-leave _ _ _ (c .before .before .word3 .ensures .0) (c .before .before .before .before .before .before .before .word .ensures .0) (sym (c .before .leaves .ensures) ∙ c .if4 .taken))
+returns-4 c =
+    let rows = c .before .before .before .before .before .before .before .word .ensures .0 in
+    sym (rows-leave _ _ _ (c .before .before .word3 .ensures .0) rows (sym (c .before .leaves .ensures) ∙ c .if4 .taken))
 
 word-requires-4 : tie.Need-word-requires-4
 word-requires-4 c κs = omega arith
@@ -43,10 +45,8 @@ leaves-requires-2 c κs = omega arith
 
 returns-5 : tie.Need-returns-5
 returns-5 c =
-    let e4 = c .before .before .before in
-    let rows = c .before .before .before .before .before .before .before .before .before .before .word .ensures .0 in
     let points = c .before .before .before .before .before .before .before .word2 .ensures .0 in
-    sym (points-leave _ _ _ (e4 .before .before .word3 .ensures .0) rows _ _ (c .before .before .word4 .ensures .0) points (sym (c .before .leaves2 .ensures) ∙ c .if5 .taken))
+    sym (points-leave _ _ _ (c .before .before .word4 .ensures .0) points (sym (c .before .leaves2 .ensures) ∙ c .if5 .taken))
 
 share-requires : tie.Need-share-requires
 share-requires c κs = omega arith
@@ -60,7 +60,8 @@ returns-6 c =
     let rows-lie = sym (e4 .before .leaves .ensures) ∙ e4 .if4 .left in
     let points-lie = sym (e5 .before .leaves2 .ensures) ∙ e5 .if5 .left in
     c .share .ensures
-    ∙ sym (tables-left _ _ _ (e4 .before .before .word3 .ensures .0) rows _ _ (e5 .before .before .word4 .ensures .0) points (omega arith) (omega arith) (omega arith) rows-lie points-lie)
+    ∙ sym
+    (tables-left _ _ _ _ _ (e4 .before .before .word3 .ensures .0) rows (e5 .before .before .word4 .ensures .0) points (omega arith) (omega arith) (omega arith) rows-lie points-lie)
 
 pub tables-misplaced-spec : {M : Type 1} → statement M
 tables-misplaced-spec =
