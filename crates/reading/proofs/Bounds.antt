@@ -16,7 +16,7 @@ use Rattle.words.proofs.Tests.{facts, either, not-outside}
 use Rattle.words.proofs.Lists.{rises-from-zero}
 use Rattle.words.proofs.Words.{length-entries}
 use Rattle.reading.specs.Block.{blockHeaderBytes, mostBlockBytes, mostNetCone, leapYear, mostIds, idBytes, Terms, blockOf, notABlock, termsOutside, idsMisplaced, idsOutOfOrder}
-use Rattle.reading.specs.Interval.{intervalsPerDay, rowBytes, mostImports, mostRows, mostKilowatts, Header, Row, headerOf, rowOf, rowsOf, headerOutside, tablesMisplaced, rowOutside}
+use Rattle.reading.specs.Interval.{headerBytes, rowBytes, pointBytes, mostFileBytes, intervalsPerDay, mostImports, mostRows, mostPoints, mostKilowatts, Header, Row, headerOf, rowOf, rowsOf, notAFile, headerOutside, tablesMisplaced, rowOutside}
 
 -- terms that ground 2 does not refuse
 pub record TermsIn (t : Terms) : Type 0 where
@@ -101,3 +101,26 @@ block-has-header b e =
 pub ids-placed : (b : List ℕ) → idsMisplaced b ≡ false → blockOf b .idsOffset + idBytes * blockOf b .idCount ≤ length b
 unfolding idsMisplaced liesFrom
 ids-placed b e = search facts depth 9
+
+-- a file that ground 7 does not refuse has its ten words
+pub file-has-header : (f : List ℕ) → notAFile f ≡ false → headerBytes ≤ length f
+unfolding notAFile
+file-has-header f e =
+    let range : outside headerBytes mostFileBytes (length f) ≡ false = search facts in
+    not-outside headerBytes mostFileBytes (length f) range .0
+
+-- tables that ground 11 does not refuse
+pub record TablesIn (f : List ℕ) : Type 0 where
+  pub rows : headerOf f .rowCount ≤ mostRows
+  pub points : headerOf f .pointCount ≤ mostPoints
+  pub rows-lie : headerOf f .rowsOffset + rowBytes * headerOf f .rowCount ≤ length f
+  pub points-lie : headerOf f .pointsOffset + pointBytes * headerOf f .pointCount ≤ length f
+
+pub tables-in : (f : List ℕ) → tablesMisplaced f ≡ false → TablesIn f
+unfolding tablesMisplaced liesFrom
+tables-in f e = record {
+  rows = rows-few f e;
+  points = search facts depth 9;
+  rows-lie = search facts depth 9;
+  points-lie = search facts depth 9;
+}

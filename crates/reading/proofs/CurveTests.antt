@@ -1,28 +1,18 @@
 -- What each test that the code makes of a row's points says of ground 14.
-use Prim.Native.Nat.{ℕ, zero, suc, _+_, _-_, _*_, _≤_, _<_}
-use mathlib.Core.Path.{_≡_, refl, sym, ap, ap₂, _∙_}
+use Prim.Native.Nat.{ℕ, _+_, _-_, _*_, _≤_, _<_}
+use mathlib.Core.Path.{_≡_, refl}
 use mathlib.Core.List.{List, [], _∷_}
 use mathlib.Core.Bool.{Bool, true, false, _||_, _&&_}
-use native.Mathlib.Nat.{sub-zero}
 use native.Mathlib.Omega.{arith}
+use borrow.Author.Tests.{lt-ltb, le-ltb, ltb-false}
 use lib.ListN.{drop}
-use lib.Seq.{drop-drop}
 use lib.Dec.{ltb}
 use lib.Signed.{ltZ}
-use borrow.Author.Tests.{lt-ltb, le-ltb, ltb-false}
-use Rattle.words.specs.Lists.{any}
-use Rattle.words.specs.Words.{word32, signed, entries}
+use Rattle.words.specs.Words.{word32, signed}
 use Rattle.words.specs.Grounds.{beyond}
 use Rattle.words.proofs.Tests.{not-second}
 use Rattle.reading.specs.Interval.{pointBytes, mostRowPoints, mostKilowatts, mostPrice, Point, pointOf, pointOutside, fallsAfter, falls}
-
-pub or-false : (t : Bool) → (t || false) ≡ t
-or-false true = refl
-or-false false = refl
-
-pub or-assoc : (a b c : Bool) → ((a || b) || c) ≡ (a || (b || c))
-or-assoc true b c = refl
-or-assoc false b c = refl
+use Rattle.reading.proofs.Bools.{or-false}
 
 -- the number of a row's points, and their place
 module _ (count first points : ℕ) where

@@ -1,18 +1,19 @@
 -- What each test that the code makes says of grounds 7, 9 and 11.
 use Prim.Native.Nat.{ℕ, _+_, _-_, _*_, _≤_, _<_}
-use mathlib.Core.Path.{_≡_, refl, sym, ap, _∙_}
+use mathlib.Core.Path.{_≡_, ap, _∙_}
 use mathlib.Core.List.{List}
-use mathlib.Core.Bool.{Bool, true, false, not}
+use mathlib.Core.Bool.{true, false, not}
 use native.Mathlib.Omega.{arith}
+use borrow.Author.Tests.{lt-ltb, le-ltb, le-leb, lt-leb}
 use lib.ListN.{length}
 use lib.IntN.{pos, natAbs, _-ℤ_}
 use lib.Dec.{ltb, eqb}
-use borrow.Author.Tests.{lt-ltb, le-ltb, le-leb, lt-leb, eq-eqb, ne-eqb}
 use Rattle.words.specs.Words.{word32, signed}
 use Rattle.words.specs.Grounds.{outside, beyond, liesFrom, overlap}
 use Rattle.words.proofs.Tests.{not-leb}
 use Rattle.words.proofs.Ints.{less-2^32}
 use Rattle.reading.specs.Interval.{headerBytes, mostFileBytes, intervalsPerDay, mostImports, mostRows, mostPoints, rowBytes, pointBytes, headerOf, notAFile, headerOutside, tablesMisplaced}
+use Rattle.reading.proofs.Bools.{or-true}
 
 -- how far a signed word lies from 0
 module _ (most w : ℕ) where
@@ -46,9 +47,9 @@ module _ (f : List ℕ) where
   unfolding headerOutside headerOf
   interval-late h = rw (le-leb (intervalsPerDay * word32 f 3) (word32 f 1) h)
 
-  pub region-above : word32 f 1 < intervalsPerDay * word32 f 3 → 1 < word32 f 4 → headerOutside (headerOf f) ≡ true
+  pub region-above : 1 < word32 f 4 → headerOutside (headerOf f) ≡ true
   unfolding headerOutside headerOf
-  region-above early h = rw (lt-leb (intervalsPerDay * word32 f 3) (word32 f 1) early, lt-ltb 1 (word32 f 4) h)
+  region-above h = rw (lt-ltb 1 (word32 f 4) h, or-true)
 
   pub imports-left : word32 f 1 < intervalsPerDay * word32 f 3 → word32 f 4 ≤ 1 → headerOutside (headerOf f) ≡ beyond mostImports (signed (word32 f 5))
   unfolding headerOutside headerOf
@@ -82,34 +83,32 @@ module _ (a m b n : ℕ) where
   unfolding overlap
   second-behind p q h = rw (lt-ltb 0 m p, lt-ltb 0 n q, lt-ltb a (b + n) h)
 
--- ground 11, of a file whose header words are known
-module _ (f : List ℕ) (rows : ℕ) (count : rows ≡ word32 f 6) where
-  pub rows-none : rows < 1 → tablesMisplaced f ≡ true
+-- ground 11: one test that fails decides
+module _ (f : List ℕ) where
+  pub rows-none : word32 f 6 < 1 → tablesMisplaced f ≡ true
   unfolding tablesMisplaced outside headerOf
-  rows-none h = rw (← count, lt-ltb rows 1 h)
+  rows-none h = rw (lt-ltb (word32 f 6) 1 h)
 
-  pub rows-many : 1 ≤ rows → mostRows < rows → tablesMisplaced f ≡ true
+  pub rows-many : mostRows < word32 f 6 → tablesMisplaced f ≡ true
   unfolding tablesMisplaced outside headerOf
-  rows-many low h = rw (← count, le-ltb rows 1 low, lt-ltb mostRows rows h)
+  rows-many h = rw (lt-ltb mostRows (word32 f 6) h, or-true)
 
-  module _ (points : ℕ) (number : points ≡ word32 f 8) (low : 1 ≤ rows) (high : rows ≤ mostRows) where
-    pub points-many : mostPoints < points → tablesMisplaced f ≡ true
+  pub points-many : mostPoints < word32 f 8 → tablesMisplaced f ≡ true
+  unfolding tablesMisplaced headerOf
+  points-many h = rw (lt-ltb mostPoints (word32 f 8) h, or-true)
+
+  pub rows-leave : (a rows : ℕ) → a ≡ word32 f 7 → rows ≡ word32 f 6 → not (liesFrom headerBytes (length f) a (rowBytes * rows)) ≡ true → tablesMisplaced f ≡ true
+  unfolding tablesMisplaced headerOf
+  rows-leave a rows offset number h = rw (← offset, ← number, h, or-true)
+
+  pub points-leave : (b points : ℕ) → b ≡ word32 f 9 → points ≡ word32 f 8 → not (liesFrom headerBytes (length f) b (pointBytes * points)) ≡ true → tablesMisplaced f ≡ true
+  unfolding tablesMisplaced headerOf
+  points-leave b points offset number h = rw (← offset, ← number, h, or-true)
+
+  -- where none of these fails, the tables are left to share a byte
+  module _ (a rows b points : ℕ) (rows-at : a ≡ word32 f 7) (rows-are : rows ≡ word32 f 6) (points-at : b ≡ word32 f 9) (points-are : points ≡ word32 f 8) where
+    pub tables-left : 1 ≤ rows → rows ≤ mostRows → points ≤ mostPoints → not (liesFrom headerBytes (length f) a (rowBytes * rows)) ≡ false
+        → not (liesFrom headerBytes (length f) b (pointBytes * points)) ≡ false → tablesMisplaced f ≡ overlap a (rowBytes * rows) b (pointBytes * points)
     unfolding tablesMisplaced outside headerOf
-    points-many h = rw (← count, ← number, le-ltb rows 1 low, le-ltb mostRows rows high, lt-ltb mostPoints points h)
-
-    module _ (few : points ≤ mostPoints) (a : ℕ) (offset : a ≡ word32 f 7) where
-      pub rows-leave : not (liesFrom headerBytes (length f) a (rowBytes * rows)) ≡ true → tablesMisplaced f ≡ true
-      unfolding tablesMisplaced outside headerOf
-      rows-leave h = rw (← count, ← number, ← offset, le-ltb rows 1 low, le-ltb mostRows rows high, le-ltb mostPoints points few, h)
-
-      module _ (lie : not (liesFrom headerBytes (length f) a (rowBytes * rows)) ≡ false) (b : ℕ) (offset′ : b ≡ word32 f 9) where
-        pub points-leave : not (liesFrom headerBytes (length f) b (pointBytes * points)) ≡ true → tablesMisplaced f ≡ true
-        unfolding tablesMisplaced outside headerOf
-        points-leave h =
-            rw (← count, ← number, ← offset, ← offset′, le-ltb rows 1 low, le-ltb mostRows rows high, le-ltb mostPoints points few, lie, h)
-
-        pub tables-share : not (liesFrom headerBytes (length f) b (pointBytes * points)) ≡ false
-            → tablesMisplaced f ≡ overlap a (rowBytes * rows) b (pointBytes * points)
-        unfolding tablesMisplaced outside headerOf
-        tables-share h =
-            rw (← count, ← number, ← offset, ← offset′, le-ltb rows 1 low, le-ltb mostRows rows high, le-ltb mostPoints points few, lie, h)
+    tables-left low high few rows-lie points-lie =
+        rw (← rows-at, ← rows-are, ← points-at, ← points-are, le-ltb rows 1 low, le-ltb mostRows rows high, le-ltb mostPoints points few, rows-lie, points-lie)

@@ -1,6 +1,7 @@
 pub mod Computing
 pub mod Figures
 pub mod Bounds
+pub mod Bools
 pub mod Order
 pub mod BlockTests
 pub mod FileTests

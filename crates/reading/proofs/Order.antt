@@ -12,14 +12,11 @@ use borrow.Author.Tests.{lt-ltb, le-ltb, eq-eqb, ne-eqb, ltb-true, ltb-false}
 use Rattle.words.specs.Lists.{any, risesAbove, rises}
 use Rattle.words.proofs.Lists.{none-pass, member-above}
 use Rattle.reading.specs.Block.{idsOutOfOrder}
+use Rattle.reading.proofs.Bools.{or-true}
 
 -- numbers that rise from above one on are not 0
 no-zero : (last : ℕ) (xs : List ℕ) → risesAbove last xs ≡ true → any (λ x. eqb x 0) xs ≡ false
 no-zero last xs e = none-pass (λ x. eqb x 0) xs (λ x m. ne-eqb x 0 (λ q. omega (arith, member-above last m e)))
-
-or-true : (t : Bool) → (t || true) ≡ true
-or-true true = refl
-or-true false = refl
 
 -- ids are out of order just where they do not rise from above 0 on
 pub order-is : (is : List ℕ) → idsOutOfOrder is ≡ not (risesAbove 0 is)

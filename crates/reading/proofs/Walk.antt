@@ -4,31 +4,21 @@ use mathlib.Core.Path.{_≡_, refl, sym, ap, ap₂, _∙_}
 use mathlib.Core.List.{List, [], _∷_}
 use mathlib.Core.Bool.{Bool, true, false, _||_, _&&_}
 use native.Mathlib.Omega.{arith}
+use borrow.Rule.Slice.PartAt.{part-to-end}
+use borrow.Author.Tests.{lt-ltb}
 use lib.ListN.{length, take, drop}
 use lib.Seq.{drop-drop}
-use borrow.Rule.Slice.PartAt.{part-to-end}
 use lib.Dec.{ltb}
 use lib.Signed.{ltZ}
-use borrow.Author.Tests.{lt-ltb}
 use Rattle.words.specs.Lists.{any}
 use Rattle.words.specs.Words.{word32, entries}
 use Rattle.words.specs.Grounds.{answered}
 use Rattle.words.proofs.Words.{length-entries}
 use Rattle.reading.specs.Interval.{rowBytes, pointBytes, Row, Point, headerOf, pointOf, rowAt, pointsFrom, rowOf, rowsOf, rowOutside, pointOutside, fallsAfter, falls, pointsOutside}
+use Rattle.reading.proofs.Bools.{or-assoc, or-apart, or-then}
 use Rattle.reading.proofs.Tables.{entriesFrom, table-start, table-turn, table-end}
 use Rattle.reading.proofs.RowTests.{curve-free}
-use Rattle.reading.proofs.CurveTests.{or-false, or-assoc, misplaced, pointAt, refused}
-
--- two alternatives, in which the tests of one member and those of the others are told apart
-or-apart : (x xs y ys : Bool) → ((x || xs) || (y || ys)) ≡ ((x || y) || (xs || ys))
-or-apart true xs y ys = refl
-or-apart false true true ys = refl
-or-apart false true false ys = refl
-or-apart false false y ys = refl
-
-or-then : (s t : Bool) → (s || t) ≡ ((s || false) || t)
-or-then true t = refl
-or-then false t = refl
+use Rattle.reading.proofs.CurveTests.{misplaced, pointAt, refused}
 
 -- one point falls from none
 falls-short : (ps : List Point) → length ps ≤ 1 → falls ps ≡ false
@@ -79,7 +69,7 @@ module _ (n : ℕ) (c : List ℕ) where
       ap₂ (λ ps t. any pointOutside ps || t) (table-end pointBytes pointOf n c j h) (falls-short (pointsLeft (j - 1)) most)
 
 -- a part of a file that goes to its end
-pub part-at : (f : List ℕ) (a at : ℕ) → a ≡ at → take (length f - a) (drop a f) ≡ drop at f
+part-at : (f : List ℕ) (a at : ℕ) → a ≡ at → take (length f - a) (drop a f) ≡ drop at f
 part-at f a at e = part-to-end f a ∙ ap (λ k. drop k f) e
 
 -- the rows of a file f
@@ -87,6 +77,9 @@ module _ (f : List ℕ) where
   -- the part of the file that row k begins
   abbrev pub rowPart : ℕ → List ℕ
   rowPart k = drop (headerOf f .rowsOffset + rowBytes * k) f
+
+  pub row-part : (k : ℕ) {first : ℕ} → first ≡ headerOf f .rowsOffset → take (length f - (first + rowBytes * k)) (drop (first + rowBytes * k) f) ≡ rowPart k
+  row-part k {first} e = part-at f (first + rowBytes * k) (headerOf f .rowsOffset + rowBytes * k) (ap (λ at. at + rowBytes * k) e)
 
   -- the rows from k on
   unfoldable pub rowsLeft : ℕ → List Row

@@ -273,13 +273,15 @@ pub fn row_outside(row: &[u8]) -> bool
 // Whether the points of the row at the front of a part of a file are too many, or reach beyond the table.
 fn curve_misplaced(row: &[u8], points: u64) -> bool
     requires { ⌜ 56 ≤ length (now row) ⌝ }
-    ensures { λ r. ⌜ r ≡ (ltb 10 (wordOf (now (row .entry)) 13) || (ltb 0 (wordOf (now (row .entry)) 13) && ltb points (wordOf (now (row .entry)) 12 + wordOf (now (row .entry)) 13))) ⌝ }
+    ensures { λ r.
+        let b = now (row .entry) in
+        ⌜ r ≡ (ltb 10 (wordOf b 13) || (ltb 0 (wordOf b 13) && ltb points (wordOf b 12 + wordOf b 13))) ⌝ }
 {
     let count = word(row, POINT_COUNT);
     if MOST_ROW_POINTS < count {
         return true;
     }
-    // with no points, the first of them is free
+    // Where there are no points, the first of them is free.
     if count == 0 {
         return false;
     }
@@ -312,7 +314,10 @@ fn falls(point: &[u8], next: &[u8]) -> bool
 // Whether point j of a curve is out of range, or falls from the one before it.
 fn point_refused(curve: &[u8], j: usize) -> bool
     requires { ⌜ 8 * j + 8 ≤ length (now curve) ⌝ }
-    ensures { λ r. ⌜ r ≡ (pointOutside (pointOf (drop (8 * j) (now (curve .entry)))) || (ltb 0 j && fallsOf (pointOf (drop (8 * (j - 1)) (now (curve .entry))) ∷ pointOf (drop (8 * j) (now (curve .entry))) ∷ []))) ⌝ }
+    ensures { λ r.
+        let last = pointOf (drop (8 * (j - 1)) (now (curve .entry))) in
+        let point = pointOf (drop (8 * j) (now (curve .entry))) in
+        ⌜ r ≡ (pointOutside point || (ltb 0 j && fallsOf (last ∷ point ∷ []))) ⌝ }
 {
     if point_outside(&curve[POINT_BYTES * j..]) {
         return true;
@@ -326,11 +331,11 @@ fn point_refused(curve: &[u8], j: usize) -> bool
 // Grounds 13 and 14, of tables that lie within the file: all rows are tested for 13 before any for 14.
 pub fn scan(file: &[u8]) -> u32
     requires { ⌜ 40 ≤ length (now file) ⌝ }
-    requires { ⌜ headerOf (now file) .rowCount ≤ 512 ⌝ }
-    requires { ⌜ headerOf (now file) .pointCount ≤ 2048 ⌝ }
     requires { ⌜ headerOf (now file) .rowsOffset + 56 * headerOf (now file) .rowCount ≤ length (now file) ⌝ }
     requires { ⌜ headerOf (now file) .pointsOffset + 8 * headerOf (now file) .pointCount ≤ length (now file) ⌝ }
-    ensures { λ r. ⌜ r ≡ answered ((any rowOutside (rowsOf (now (file .entry))), 13) ∷ (any (pointsOutside (headerOf (now (file .entry)) .pointCount)) (rowsOf (now (file .entry))), 14) ∷ []) ⌝ }
+    ensures { λ r.
+        let f = now (file .entry) in
+        ⌜ r ≡ answered ((any rowOutside (rowsOf f), 13) ∷ (any (pointsOutside (headerOf f .pointCount)) (rowsOf f), 14) ∷ []) ⌝ }
 {
     let rows = word(file, ROWS) as usize;
     let first = word(file, ROWS_OFFSET) as usize;
@@ -350,6 +355,7 @@ pub fn scan(file: &[u8]) -> u32
             if curve_misplaced(&file[row..], points) {
                 break 'scan 14;
             }
+            // The row's points are the part of the file that starts at the first of them.
             let count = word(&file[row..], POINT_COUNT) as usize;
             let curve = table + POINT_BYTES * word(&file[row..], FIRST_POINT) as usize;
             let mut j = 0;

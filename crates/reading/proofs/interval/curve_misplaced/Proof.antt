@@ -1,16 +1,15 @@
 -- `reading::interval::curve_misplaced` meets its contract. Each test is one of the ground.
-use mathlib.Core.Path.{sym, ap₂, _∙_}
 use Prim.Native.Nat.{_+_}
+use mathlib.Core.Path.{sym, ap₂, _∙_}
+use native.Mathlib.Omega.{arith}
 use lib.Dec.{ltb}
 use Rattle.words.specs.Words.{word32}
 use Rattle.reading.proofs.CurveTests.{count-above, none-named, some-named}
-use borrow.Author.Needs.{needs}
-use native.Mathlib.Omega.{arith}
 use Rattle.reading.proofs.interval.curve_misplaced.Statement.{statement}
 use Rattle.reading.proofs.interval.curve_misplaced.Tie as tie
 
 word-requires : tie.Need-word-requires
-word-requires c κs = search needs
+word-requires c κs = omega arith
 
 returns : tie.Need-returns
 returns c =
@@ -25,10 +24,10 @@ returns-2 c =
     sym (none-named (word32 b 13) (word32 b 12) (s .args .points) (omega arith))
 
 word-requires-2 : tie.Need-word-requires-2
-word-requires-2 c κs = search needs
+word-requires-2 c κs = omega arith
 
 add-result : tie.Need-add-result
-add-result c = search needs
+add-result c = omega arith
 
 returns-3 : tie.Need-returns-3
 returns-3 c =

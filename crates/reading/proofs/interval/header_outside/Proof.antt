@@ -1,31 +1,30 @@
 -- `reading::interval::header_outside` meets its contract. Each test is one of the ground.
 use mathlib.Core.Path.{sym, _∙_}
-use Rattle.reading.proofs.FileTests.{interval-late, region-above, imports-left}
-use borrow.Author.Needs.{needs}
 use native.Mathlib.Omega.{arith}
+use Rattle.reading.proofs.FileTests.{interval-late, region-above, imports-left}
 use Rattle.reading.proofs.interval.header_outside.Statement.{statement}
 use Rattle.reading.proofs.interval.header_outside.Tie as tie
 
 word-requires : tie.Need-word-requires
-word-requires c κs = search needs
+word-requires c κs = omega arith
 
 mul-end : tie.Need-mul-end
-mul-end c = search needs
+mul-end c = omega arith
 
 word-requires-2 : tie.Need-word-requires-2
-word-requires-2 c κs = search needs
+word-requires-2 c κs = omega arith
 
 returns : tie.Need-returns
 returns c = sym (interval-late _ (omega arith))
 
 word-requires-3 : tie.Need-word-requires-3
-word-requires-3 c κs = search needs
+word-requires-3 c κs = omega arith
 
 returns-2 : tie.Need-returns-2
-returns-2 c = sym (region-above _ (omega arith) (omega arith))
+returns-2 c = sym (region-above _ (omega arith))
 
 beyond-requires : tie.Need-beyond-requires
-beyond-requires c κs = search needs
+beyond-requires c κs = omega arith
 
 returns-3 : tie.Need-returns-3
 returns-3 c = c .beyond .ensures ∙ sym (imports-left _ (omega arith) (omega arith))

@@ -1,10 +1,9 @@
 -- `reading::interval::not_a_file` meets its contract. Each test is one of the ground.
 use mathlib.Core.Path.{sym, ap, _∙_}
 use mathlib.Core.Bool.{not}
+use native.Mathlib.Omega.{arith}
 use lib.Dec.{eqb}
 use Rattle.reading.proofs.FileTests.{file-short, file-long, file-format}
-use borrow.Author.Needs.{needs}
-use native.Mathlib.Omega.{arith}
 use Rattle.reading.proofs.interval.not_a_file.Statement.{statement}
 use Rattle.reading.proofs.interval.not_a_file.Tie as tie
 
@@ -15,7 +14,7 @@ returns-2 : tie.Need-returns-2
 returns-2 c = sym (file-long _ (omega arith) (omega arith))
 
 word-requires : tie.Need-word-requires
-word-requires c κs = search needs
+word-requires c κs = omega arith
 
 returns-3 : tie.Need-returns-3
 returns-3 c = ap (λ f. not (eqb f 1)) (c .word .ensures .0) ∙ sym (file-format _ (omega arith) (omega arith))

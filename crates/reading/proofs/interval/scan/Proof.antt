@@ -1,16 +1,15 @@
--- `reading::interval::scan` meets its contract. What is left to test is whether a row from i on fails ground 13, then whether a row from k on, or a point of row k from j on, fails ground 14.
-use Prim.Native.Nat.{ℕ, _+_, _-_, _*_, _≤_, _<_}
+-- `reading::interval::scan` meets its contract. What is left to test are the rows from i on for ground 13, then those from k on, and in row k the points from j on, for 14.
+use Prim.Native.Nat.{ℕ, _+_, _-_, _*_, _≤_}
 use mathlib.Core.Path.{_≡_, sym, ap, ap₂, _∙_}
 use mathlib.Core.List.{List, []}
-use mathlib.Core.Bool.{Bool, true, false, _||_}
+use mathlib.Core.Bool.{Bool, false, _||_}
 use native.Mathlib.Omega.{arith}
-use borrow.Author.Needs.{needs}
-use lib.ListN.{length, drop}
+use lib.ListN.{length}
 use Rattle.words.specs.Lists.{any}
 use Rattle.words.specs.Words.{word32}
 use Rattle.reading.specs.Interval.{Row, headerOf, rowAt, pointsFrom, rowsOf, rowOutside, pointsOutside}
 use Rattle.reading.proofs.CurveTests.{misplaced, points-within, refused}
-use Rattle.reading.proofs.Walk.{curveLeft, part-at, Curve, curve-part, rowPart, rowsLeft, rows-start, row-fails, row-passes, rows-pass, curve-fails, curve-begins, all-pass, point-fails, point-passes, curve-passes}
+use Rattle.reading.proofs.Walk.{curveLeft, Curve, curve-part, rowPart, row-part, rowsLeft, rows-start, row-fails, row-passes, rows-pass, curve-fails, curve-begins, all-pass, point-fails, point-passes, curve-passes}
 use Rattle.reading.proofs.interval.scan.Statement.{statement}
 use Rattle.reading.proofs.interval.scan.Tie as tie
 
@@ -24,7 +23,10 @@ abbrev μ-loop : tie.MeasureT-loop
 μ-loop file rows first points table i₀ i = rows - i
 
 abbrev Inv-loop3 : tie.InvT-loop3
-Inv-loop3 file rows first points table i k row count curve j₀ j = (j ≤ count) × Curve file k count curve × (faults file (rowsOf file) ≡ (curveLeft (word32 (rowPart file k) 13) (pointsFrom file (word32 (rowPart file k) 12)) j || faults file (rowsLeft file (k + 1))))
+Inv-loop3 file rows first points table i k row count curve j₀ j =
+    let b = rowPart file k in
+    (j ≤ count) × Curve file k count curve
+    × (faults file (rowsOf file) ≡ (curveLeft (word32 b 13) (pointsFrom file (word32 b 12)) j || faults file (rowsLeft file (k + 1))))
 
 abbrev μ-loop3 : tie.MeasureT-loop3
 μ-loop3 file rows first points table i k row count curve j₀ j = count - j
@@ -42,20 +44,16 @@ abbrev μ-scan : tie.MeasureT-scan
 μ-scan file rows first points table = 0
 
 word-requires : tie.Need-word-requires Inv-loop μ-loop Inv-loop3 μ-loop3 Inv-loop2 μ-loop2 Inv-scan μ-scan
-unfolding headerOf
-word-requires c κs = search needs
+word-requires c κs = omega arith
 
 word-requires-2 : tie.Need-word-requires-2 Inv-loop μ-loop Inv-loop3 μ-loop3 Inv-loop2 μ-loop2 Inv-scan μ-scan
-unfolding headerOf
-word-requires-2 c κs = search needs
+word-requires-2 c κs = omega arith
 
 word-requires-3 : tie.Need-word-requires-3 Inv-loop μ-loop Inv-loop3 μ-loop3 Inv-loop2 μ-loop2 Inv-scan μ-scan
-unfolding headerOf
-word-requires-3 c κs = search needs
+word-requires-3 c κs = omega arith
 
 word-requires-4 : tie.Need-word-requires-4 Inv-loop μ-loop Inv-loop3 μ-loop3 Inv-loop2 μ-loop2 Inv-scan μ-scan
-unfolding headerOf
-word-requires-4 c κs = search needs
+word-requires-4 c κs = omega arith
 
 scan-holds : tie.Need-scan-holds Inv-loop μ-loop Inv-loop3 μ-loop3 Inv-loop2 μ-loop2 Inv-scan μ-scan
 scan-holds c = tt
@@ -64,36 +62,31 @@ loop-holds : tie.Need-loop-holds Inv-loop μ-loop Inv-loop3 μ-loop3 Inv-loop2 �
 loop-holds c = (omega arith, ap (any rowOutside) (rows-start _))
 
 mul-row-outside : tie.Need-mul-row-outside Inv-loop μ-loop Inv-loop3 μ-loop3 Inv-loop2 μ-loop2 Inv-scan μ-scan
-unfolding headerOf
-mul-row-outside c = search needs
+mul-row-outside c = omega arith
 
 add-row-outside : tie.Need-add-row-outside Inv-loop μ-loop Inv-loop3 μ-loop3 Inv-loop2 μ-loop2 Inv-scan μ-scan
-unfolding headerOf
-add-row-outside c = search needs
+add-row-outside c = omega arith
 
 sub-row-outside : tie.Need-sub-row-outside Inv-loop μ-loop Inv-loop3 μ-loop3 Inv-loop2 μ-loop2 Inv-scan μ-scan
 unfolding headerOf
-sub-row-outside c = search needs
+sub-row-outside c = omega arith
 
 part-row-outside-start : tie.Need-part-row-outside-start Inv-loop μ-loop Inv-loop3 μ-loop3 Inv-loop2 μ-loop2 Inv-scan μ-scan
 unfolding headerOf
-part-row-outside-start c = search needs
+part-row-outside-start c = omega arith
 
 part-row-outside-end : tie.Need-part-row-outside-end Inv-loop μ-loop Inv-loop3 μ-loop3 Inv-loop2 μ-loop2 Inv-scan μ-scan
-unfolding headerOf
-part-row-outside-end c = search needs
+part-row-outside-end c = omega arith
 
 row-outside-requires : tie.Need-row-outside-requires Inv-loop μ-loop Inv-loop3 μ-loop3 Inv-loop2 μ-loop2 Inv-scan μ-scan
 unfolding headerOf
-row-outside-requires c κs = search needs
+row-outside-requires c κs = omega arith
 
 add-i : tie.Need-add-i Inv-loop μ-loop Inv-loop3 μ-loop3 Inv-loop2 μ-loop2 Inv-scan μ-scan
-unfolding headerOf
-add-i c = search needs
+add-i c = omega arith
 
 loop-less : tie.Need-loop-less Inv-loop μ-loop Inv-loop3 μ-loop3 Inv-loop2 μ-loop2 Inv-scan μ-scan
-unfolding headerOf
-loop-less c = search needs
+loop-less c = omega arith
 
 loop-again : tie.Need-loop-again Inv-loop μ-loop Inv-loop3 μ-loop3 Inv-loop2 μ-loop2 Inv-scan μ-scan
 unfolding headerOf
@@ -102,7 +95,7 @@ loop-again c =
     let w = l .before .before in
     let f = w .before .before .before .before .before .args .file .now in
     let i = l .loop .i in
-    let part = part-at f (w .before .before .word2 .result + 56 * i) (headerOf f .rowsOffset + 56 * i) (ap (λ o. o + 56 * i) (w .before .before .word2 .ensures .0)) in
+    let part = row-part f i (w .before .before .word2 .ensures .0) in
     let says = ap (λ b. rowOutside (rowAt b [])) (sym part) ∙ sym (c .before .row-outside .ensures) in
     (omega arith, row-passes f i (l .loop .inv .1) (omega arith) (says ∙ c .if1 .left))
 
@@ -113,68 +106,61 @@ loop2-holds c =
     (omega arith, rows-pass f (c .before .loop .i) (c .before .loop .inv .1) (omega arith), ap (faults f) (rows-start f))
 
 mul-row : tie.Need-mul-row Inv-loop μ-loop Inv-loop3 μ-loop3 Inv-loop2 μ-loop2 Inv-scan μ-scan
-unfolding headerOf
-mul-row c = search needs
+mul-row c = omega arith
 
 add-row : tie.Need-add-row Inv-loop μ-loop Inv-loop3 μ-loop3 Inv-loop2 μ-loop2 Inv-scan μ-scan
-unfolding headerOf
-add-row c = search needs
+add-row c = omega arith
 
 sub-curve-misplaced : tie.Need-sub-curve-misplaced Inv-loop μ-loop Inv-loop3 μ-loop3 Inv-loop2 μ-loop2 Inv-scan μ-scan
 unfolding headerOf
-sub-curve-misplaced c = search needs
+sub-curve-misplaced c = omega arith
 
 part-curve-misplaced-start : tie.Need-part-curve-misplaced-start Inv-loop μ-loop Inv-loop3 μ-loop3 Inv-loop2 μ-loop2 Inv-scan μ-scan
 unfolding headerOf
-part-curve-misplaced-start c = search needs
+part-curve-misplaced-start c = omega arith
 
 part-curve-misplaced-end : tie.Need-part-curve-misplaced-end Inv-loop μ-loop Inv-loop3 μ-loop3 Inv-loop2 μ-loop2 Inv-scan μ-scan
-unfolding headerOf
-part-curve-misplaced-end c = search needs
+part-curve-misplaced-end c = omega arith
 
 curve-misplaced-requires : tie.Need-curve-misplaced-requires Inv-loop μ-loop Inv-loop3 μ-loop3 Inv-loop2 μ-loop2 Inv-scan μ-scan
 unfolding headerOf
-curve-misplaced-requires c κs = search needs
+curve-misplaced-requires c κs = omega arith
 
 sub-word : tie.Need-sub-word Inv-loop μ-loop Inv-loop3 μ-loop3 Inv-loop2 μ-loop2 Inv-scan μ-scan
 unfolding headerOf
-sub-word c = search needs
+sub-word c = omega arith
 
 part-word-start : tie.Need-part-word-start Inv-loop μ-loop Inv-loop3 μ-loop3 Inv-loop2 μ-loop2 Inv-scan μ-scan
 unfolding headerOf
-part-word-start c = search needs
+part-word-start c = omega arith
 
 part-word-end : tie.Need-part-word-end Inv-loop μ-loop Inv-loop3 μ-loop3 Inv-loop2 μ-loop2 Inv-scan μ-scan
-unfolding headerOf
-part-word-end c = search needs
+part-word-end c = omega arith
 
 word-requires-5 : tie.Need-word-requires-5 Inv-loop μ-loop Inv-loop3 μ-loop3 Inv-loop2 μ-loop2 Inv-scan μ-scan
 unfolding headerOf
-word-requires-5 c κs = search needs
+word-requires-5 c κs = omega arith
 
 sub-word-2 : tie.Need-sub-word-2 Inv-loop μ-loop Inv-loop3 μ-loop3 Inv-loop2 μ-loop2 Inv-scan μ-scan
 unfolding headerOf
-sub-word-2 c = search needs
+sub-word-2 c = omega arith
 
 part-word-start-2 : tie.Need-part-word-start-2 Inv-loop μ-loop Inv-loop3 μ-loop3 Inv-loop2 μ-loop2 Inv-scan μ-scan
 unfolding headerOf
-part-word-start-2 c = search needs
+part-word-start-2 c = omega arith
 
 part-word-end-2 : tie.Need-part-word-end-2 Inv-loop μ-loop Inv-loop3 μ-loop3 Inv-loop2 μ-loop2 Inv-scan μ-scan
-unfolding headerOf
-part-word-end-2 c = search needs
+part-word-end-2 c = omega arith
 
 word-requires-6 : tie.Need-word-requires-6 Inv-loop μ-loop Inv-loop3 μ-loop3 Inv-loop2 μ-loop2 Inv-scan μ-scan
 unfolding headerOf
-word-requires-6 c κs = search needs
+word-requires-6 c κs = omega arith
 
 mul-curve : tie.Need-mul-curve Inv-loop μ-loop Inv-loop3 μ-loop3 Inv-loop2 μ-loop2 Inv-scan μ-scan
-unfolding headerOf
-mul-curve c = search needs
+mul-curve c = omega arith
 
 add-curve : tie.Need-add-curve Inv-loop μ-loop Inv-loop3 μ-loop3 Inv-loop2 μ-loop2 Inv-scan μ-scan
-unfolding headerOf
-add-curve c = search needs
+add-curve c = omega arith
 
 loop3-holds : tie.Need-loop3-holds Inv-loop μ-loop Inv-loop3 μ-loop3 Inv-loop2 μ-loop2 Inv-scan μ-scan
 unfolding headerOf
@@ -183,7 +169,7 @@ loop3-holds c =
     let w = l .before .before .before .before in
     let f = w .before .before .before .before .before .args .file .now in
     let k = l .loop2 .k in
-    let part = part-at f (w .before .before .word2 .result + 56 * k) (headerOf f .rowsOffset + 56 * k) (ap (λ o. o + 56 * k) (w .before .before .word2 .ensures .0)) in
+    let part = row-part f k (w .before .before .word2 .ensures .0) in
     let says = ap₂ (λ b n. misplaced (word32 b 13) (word32 b 12) n) (sym part) (sym (w .before .word3 .ensures .0)) ∙ sym (c .before .before .before .before .before .curve-misplaced .ensures) in
     let in-place = says ∙ c .before .before .before .before .if2 .left in
     let number = c .before .before .word5 .ensures .0 ∙ ap (λ b. word32 b 13) part in
@@ -199,28 +185,22 @@ loop3-holds c =
     )
 
 sub-point-refused : tie.Need-sub-point-refused Inv-loop μ-loop Inv-loop3 μ-loop3 Inv-loop2 μ-loop2 Inv-scan μ-scan
-unfolding headerOf
-sub-point-refused c = search needs
+sub-point-refused c = omega arith
 
 part-point-refused-start : tie.Need-part-point-refused-start Inv-loop μ-loop Inv-loop3 μ-loop3 Inv-loop2 μ-loop2 Inv-scan μ-scan
-unfolding headerOf
-part-point-refused-start c = search needs
+part-point-refused-start c = omega arith
 
 part-point-refused-end : tie.Need-part-point-refused-end Inv-loop μ-loop Inv-loop3 μ-loop3 Inv-loop2 μ-loop2 Inv-scan μ-scan
-unfolding headerOf
-part-point-refused-end c = search needs
+part-point-refused-end c = omega arith
 
 point-refused-requires : tie.Need-point-refused-requires Inv-loop μ-loop Inv-loop3 μ-loop3 Inv-loop2 μ-loop2 Inv-scan μ-scan
-unfolding headerOf
-point-refused-requires c κs = search needs
+point-refused-requires c κs = omega arith
 
 add-j : tie.Need-add-j Inv-loop μ-loop Inv-loop3 μ-loop3 Inv-loop2 μ-loop2 Inv-scan μ-scan
-unfolding headerOf
-add-j c = search needs
+add-j c = omega arith
 
 loop3-less : tie.Need-loop3-less Inv-loop μ-loop Inv-loop3 μ-loop3 Inv-loop2 μ-loop2 Inv-scan μ-scan
-unfolding headerOf
-loop3-less c = search needs
+loop3-less c = omega arith
 
 loop3-again : tie.Need-loop3-again Inv-loop μ-loop Inv-loop3 μ-loop3 Inv-loop2 μ-loop2 Inv-scan μ-scan
 loop3-again c =
@@ -234,12 +214,10 @@ loop3-again c =
     (omega arith, r, point-passes f k (q .loop2 .inv .1) j (l .loop3 .inv .2) (omega (arith, r .number)) (says ∙ c .if3 .left))
 
 add-k : tie.Need-add-k Inv-loop μ-loop Inv-loop3 μ-loop3 Inv-loop2 μ-loop2 Inv-scan μ-scan
-unfolding headerOf
-add-k c = search needs
+add-k c = omega arith
 
 loop2-less : tie.Need-loop2-less Inv-loop μ-loop Inv-loop3 μ-loop3 Inv-loop2 μ-loop2 Inv-scan μ-scan
-unfolding headerOf
-loop2-less c = search needs
+loop2-less c = omega arith
 
 loop2-again : tie.Need-loop2-again Inv-loop μ-loop Inv-loop3 μ-loop3 Inv-loop2 μ-loop2 Inv-scan μ-scan
 loop2-again c =
@@ -258,7 +236,7 @@ returns c =
     let w = l .before .before in
     let f = w .before .before .before .before .before .args .file .now in
     let i = l .loop .i in
-    let part = part-at f (w .before .before .word2 .result + 56 * i) (headerOf f .rowsOffset + 56 * i) (ap (λ o. o + 56 * i) (w .before .before .word2 .ensures .0)) in
+    let part = row-part f i (w .before .before .word2 .ensures .0) in
     let says = ap (λ b. rowOutside (rowAt b [])) (sym part) ∙ sym (c .before .row-outside .ensures) in
     sym (row-fails f i (l .loop .inv .1) (omega arith) (says ∙ c .if1 .taken))
 
@@ -269,7 +247,7 @@ returns-2 c =
     let w = l .before .before .before .before in
     let f = w .before .before .before .before .before .args .file .now in
     let k = l .loop2 .k in
-    let part = part-at f (w .before .before .word2 .result + 56 * k) (headerOf f .rowsOffset + 56 * k) (ap (λ o. o + 56 * k) (w .before .before .word2 .ensures .0)) in
+    let part = row-part f k (w .before .before .word2 .ensures .0) in
     let says = ap₂ (λ b n. misplaced (word32 b 13) (word32 b 12) n) (sym part) (sym (w .before .word3 .ensures .0)) ∙ sym (c .before .curve-misplaced .ensures) in
     sym (curve-fails f k (l .loop2 .inv .1) (l .loop2 .inv .2) (omega arith) (says ∙ c .if2 .taken))
 

@@ -1,8 +1,7 @@
 -- `reading::interval::share` meets its contract. Each test is one of the definition.
 use mathlib.Core.Path.{sym}
-use Rattle.reading.proofs.FileTests.{none-first, none-second, first-behind, second-behind}
-use borrow.Author.Needs.{needs}
 use native.Mathlib.Omega.{arith}
+use Rattle.reading.proofs.FileTests.{none-first, none-second, first-behind, second-behind}
 use Rattle.reading.proofs.interval.share.Statement.{statement}
 use Rattle.reading.proofs.interval.share.Tie as tie
 
@@ -13,13 +12,13 @@ returns-2 : tie.Need-returns-2
 returns-2 c = sym (none-second _ _ _ _ (omega arith) (omega arith))
 
 add-if3 : tie.Need-add-if3
-add-if3 c = search needs
+add-if3 c = omega arith
 
 returns-3 : tie.Need-returns-3
 returns-3 c = sym (first-behind _ _ _ _ (omega arith) (omega arith) (omega arith))
 
 add-result : tie.Need-add-result
-add-result c = search needs
+add-result c = omega arith
 
 returns-4 : tie.Need-returns-4
 returns-4 c = sym (second-behind _ _ _ _ (omega arith) (omega arith) (omega arith))
