@@ -7,3 +7,4 @@ pub mod RuleLaws
 pub mod CurveNumbers
 pub mod CurveLaws
 pub mod SumLaws
+pub mod RowLaws

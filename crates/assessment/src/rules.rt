@@ -254,12 +254,9 @@ pub fn shortfall(
     requires { ⌜ act .0 ≡ actualOf (rowAt (now row) (now points)) ⌝ }
     requires { ⌜ out .0 ≡ outageOf (rowAt (now row) (now points)) ⌝ }
     requires { ⌜ econ .0 ≡ economicOf (rowAt (now row) (now points)) (expect .0) ⌝ }
-    requires { ⌜ act .0 < 2 ^ 33 ⌝ }
-    requires { ⌜ out .0 < 2 ^ 33 ⌝ }
-    requires { ⌜ econ .0 < 2 ^ 33 ⌝ }
     ensures { λ r. ⌜ r .0 ≡ shortfallOf (rowAt (now (row .entry)) (now (points .entry))) (expect .0) ⌝ }
 {
-    Kilowatts(above(expect.0, act.0 + out.0 + econ.0))
+    Kilowatts(above(above(above(expect.0, act.0), out.0), econ.0))
 }
 
 // What a demand or PRD row adds to the numerator: its bonus, of which the committed kW are expected.
