@@ -1,5 +1,6 @@
 pub mod Computing
 pub mod Listing
+pub mod Accounts
 pub mod Sound
 pub mod LedgerBack
 pub mod Given

@@ -1,20 +1,72 @@
-// The ledger's words, written into the caller's buffer.
+// The ledger's words, read from the caller's buffer and written into it.
 
+use assessment::units::Cents;
+use assessment::units::Kilowatts;
 use words::put64;
+use words::word64;
 ghost use mathlib.Core.Path.{_≡_};
 ghost use mathlib.Core.List.{_∷_, []};
-ghost use Prim.Native.Nat.{_+_, _≤_};
-ghost use lib.ListN.{length};
-ghost use Rattle.words.specs.Words.{written, writtenAt};
+ghost use Prim.Native.Nat.{_+_, _*_, _≤_};
+ghost use lib.ListN.{length, drop};
+ghost use Rattle.words.specs.Words.{word64 as wordOf, written, writtenAt};
+ghost use Rattle.ledger.specs.Ledger.{accountAt};
 
-const FORMAT: u64 = 1;
+pub const LEDGER_FORMAT: u64 = 1;
 
-const ACCOUNTS_OFFSET: u64 = 8;
+pub const ACCOUNTS_OFFSET: u64 = 8;
 
 // Bytes of a ledger before its accounts, and of an account.
 pub const HEADER_BYTES: usize = 64;
 
 pub const ACCOUNT_BYTES: usize = 32;
+
+// Words of the header.
+pub const FORMAT: usize = 0;
+
+pub const NET_CONE: usize = 1;
+
+pub const DAYS: usize = 2;
+
+pub const EARLIEST: usize = 3;
+
+pub const CARRIED: usize = 4;
+
+pub const ACCOUNTS: usize = 5;
+
+pub const OFFSET: usize = 6;
+
+pub const LAST: usize = 7;
+
+pub struct Account {
+    pub id: u64,
+    pub largest: Kilowatts,
+    pub charged: Cents,
+    pub credited: Cents,
+}
+
+// Word k of a ledger's header.
+pub fn word(ledger: &[u8], k: usize) -> u64
+    requires { ⌜ 8 * k + 8 ≤ length (now ledger) ⌝ }
+    ensures { λ r. ⌜ r ≡ wordOf (now (ledger .entry)) k ⌝ }
+{
+    word64(ledger, 8 * k)
+}
+
+// Account j.
+pub fn account_at(ledger: &[u8], j: usize) -> Account
+    requires { ⌜ 64 + 32 * j + 32 ≤ length (now ledger) ⌝ }
+    ensures { λ r.
+        let a = accountAt (drop (64 + 32 * j) (now (ledger .entry))) in
+        ⌜ (r .id ≡ a .id) × (r .largest .0 ≡ a .largest) × (r .charged .0 ≡ a .charged) × (r .credited .0 ≡ a .credited) ⌝ }
+{
+    let at = HEADER_BYTES + ACCOUNT_BYTES * j;
+    Account {
+        id: word64(ledger, at),
+        largest: Kilowatts(word64(ledger, at + 8)),
+        charged: Cents(word64(ledger, at + 16)),
+        credited: Cents(word64(ledger, at + 24)),
+    }
+}
 
 // Writes the eight words before the accounts.
 pub fn write_header(
@@ -22,17 +74,17 @@ pub fn write_header(
     cone: u64,
     days: u64,
     earliest: u64,
-    carried: u64,
+    carried: Cents,
     accounts: u64,
 )
     requires { ⌜ 64 ≤ length (now ledger) ⌝ }
-    ensures { λ _. ⌜ now (ledger .exit) ≡ written (1 ∷ cone ∷ days ∷ earliest ∷ carried ∷ accounts ∷ 8 ∷ 0 ∷ []) (now (ledger .entry)) ⌝ }
+    ensures { λ _. ⌜ now (ledger .exit) ≡ written (1 ∷ cone ∷ days ∷ earliest ∷ carried .0 ∷ accounts ∷ 8 ∷ 0 ∷ []) (now (ledger .entry)) ⌝ }
 {
-    put64(ledger, 0, FORMAT);
+    put64(ledger, 0, LEDGER_FORMAT);
     put64(ledger, 8, cone);
     put64(ledger, 16, days);
     put64(ledger, 24, earliest);
-    put64(ledger, 32, carried);
+    put64(ledger, 32, carried.0);
     put64(ledger, 40, accounts);
     put64(ledger, 48, ACCOUNTS_OFFSET);
     put64(ledger, 56, 0);
@@ -43,15 +95,15 @@ pub fn write_account(
     ledger: &mut [u8],
     at: usize,
     id: u64,
-    largest: u64,
-    charged: u64,
-    credited: u64,
+    largest: Kilowatts,
+    charged: Cents,
+    credited: Cents,
 )
     requires { ⌜ at + 32 ≤ length (now ledger) ⌝ }
-    ensures { λ _. ⌜ now (ledger .exit) ≡ writtenAt at (id ∷ largest ∷ charged ∷ credited ∷ []) (now (ledger .entry)) ⌝ }
+    ensures { λ _. ⌜ now (ledger .exit) ≡ writtenAt at (id ∷ largest .0 ∷ charged .0 ∷ credited .0 ∷ []) (now (ledger .entry)) ⌝ }
 {
     put64(ledger, at, id);
-    put64(ledger, at + 8, largest);
-    put64(ledger, at + 16, charged);
-    put64(ledger, at + 24, credited);
+    put64(ledger, at + 8, largest.0);
+    put64(ledger, at + 16, charged.0);
+    put64(ledger, at + 24, credited.0);
 }

@@ -4,6 +4,8 @@ use crate::layout::ACCOUNT_BYTES;
 use crate::layout::HEADER_BYTES;
 use crate::layout::write_account;
 use crate::layout::write_header;
+use assessment::units::Cents;
+use assessment::units::Kilowatts;
 use reading::block::days;
 use reading::block::id_at;
 use reading::block::id_count;
@@ -55,7 +57,14 @@ fn write_accounts(block: &[u8], ledger: &mut [u8])
     let mut i = 0;
     while i < count {
         let id = id_at(block, i);
-        write_account(ledger, HEADER_BYTES + ACCOUNT_BYTES * i, id, 0, 0, 0);
+        write_account(
+            ledger,
+            HEADER_BYTES + ACCOUNT_BYTES * i,
+            id,
+            Kilowatts(0),
+            Cents(0),
+            Cents(0),
+        );
         i += 1;
     }
 }
@@ -67,7 +76,14 @@ fn write_opened(block: &[u8], ledger: &mut [u8])
     requires { ⌜ ledgerBytes (blockOf (now block) .idCount) ≤ length (now ledger) ⌝ }
     ensures { λ _. ⌜ now (ledger .exit) ≡ written (ledgerWords (openedLedger (now (block .entry)))) (now (ledger .entry)) ⌝ }
 {
-    write_header(ledger, net_cone(block), days(block), 0, 0, id_count(block));
+    write_header(
+        ledger,
+        net_cone(block),
+        days(block),
+        0,
+        Cents(0),
+        id_count(block),
+    );
     write_accounts(block, ledger);
 }
 
