@@ -1,6 +1,8 @@
 pub mod Computing
 pub mod Listing
 pub mod Accounts
+pub mod Beside
+pub mod Meeting
 pub mod Sound
 pub mod LedgerBack
 pub mod Given
