@@ -36,6 +36,7 @@ ghost use Rattle.assessment.specs.Assessment.{
   outage as outageOf,
   economic as economicOf,
   shortfall as shortfallOf,
+  raised as raisedOf,
   limit as limitOf,
   fullCharge,
   charge as chargeOf,
@@ -192,6 +193,14 @@ pub fn economic(
         }
         _ => Kilowatts(0),
     }
+}
+
+// The largest commitment of an account that a row has raised to its committed kW, if that is larger.
+pub fn raised(row: &[u8], largest: Kilowatts) -> Kilowatts
+    requires { ⌜ 56 ≤ length (now row) ⌝ }
+    ensures { λ r. ⌜ r .0 ≡ raisedOf (rowAt (now (row .entry)) []) (record { id = 0; largest = largest .0; charged = 0; credited = 0 }) .largest ⌝ }
+{
+    Kilowatts(greater(largest.0, word(row, COMMITTED)))
 }
 
 // The limit of a largest commitment, rounded down.

@@ -24,7 +24,7 @@ use Rattle.ledger.specs.Year.{GivenRow, sumOfPlant, largestOfPlant, acco
 use Rattle.ledger.proofs.Sound.{AccountIn}
 use Rattle.ledger.proofs.LedgerBack.{InOrder}
 use Rattle.ledger.proofs.Given.{givenOf}
-use Rattle.ledger.proofs.Posting.{posted-all}
+use Rattle.ledger.proofs.PostedSums.{posted-all}
 use Rattle.ledger.proofs.Fits.{largest-le, part-le}
 use Rattle.ledger.proofs.Totals.{parts-make-whole, largest-append, plant-append}
 

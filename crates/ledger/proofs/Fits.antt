@@ -21,7 +21,7 @@ use Rattle.ledger.specs.Year.{GivenRow, sumOfPlant, largestOfPlant}
 use Rattle.ledger.proofs.Sound.{LedgerIn}
 use Rattle.ledger.proofs.LedgerBack.{Fits, fits-nil, fits-cons, AccountFits, LedgerFits}
 use Rattle.ledger.proofs.Given.{givenOf, GivenFits}
-use Rattle.ledger.proofs.Posting.{posted-all}
+use Rattle.ledger.proofs.PostedSums.{posted-all}
 
 -- one plant's part of a sum
 pub part-le : (i : ℕ) (f : GivenRow → ℕ) (gs : List GivenRow) → sumOfPlant i f gs ≤ sum f gs

@@ -6,7 +6,7 @@ pub mod Meeting
 pub mod Sound
 pub mod LedgerBack
 pub mod Given
-pub mod Posting
+pub mod PostedSums
 pub mod Fits
 pub mod Totals
 pub mod Limits
