@@ -1,8 +1,8 @@
 -- What each test that the code makes says of ground 6.
 use Prim.Native.Nat.{ℕ, _+_, _*_, _≤_, _<_}
 use mathlib.Core.Path.{_≡_, refl, sym, ap, ap₂, _∙_}
-use mathlib.Core.List.{List, [], _∷_, map}
-use mathlib.Core.Bool.{Bool, true, false, not, _||_}
+use mathlib.Core.List.{List, _∷_, map}
+use mathlib.Core.Bool.{Bool, true, false, not, _||_, false≢true}
 use native.Mathlib.Omega.{arith}
 use lib.ListN.{length}
 use lib.Dec.{ltb, eqb}
@@ -17,7 +17,7 @@ use Rattle.reading.proofs.Bounds.{TermsIn}
 use Rattle.reading.proofs.Order.{order-is}
 use Rattle.assessment.specs.Assessment.{Account, limit}
 use Rattle.assessment.proofs.Limits.{mostLimit, limit-le}
-use Rattle.ledger.specs.Ledger.{ledgerHeaderBytes, ledgerFormat, accountsOffset, mostCents, mostCredited, Ledger, ledgerBytes, accountAt, accountCount, ledgerOf, idsIn, notLaidOut, accountOutside, doesNotClose, notALedger}
+use Rattle.ledger.specs.Ledger.{ledgerHeaderBytes, ledgerFormat, accountsOffset, mostCents, mostCredited, ledgerBytes, accountAt, accountCount, ledgerOf, idsIn, notLaidOut, accountOutside, doesNotClose, notALedger}
 use Rattle.ledger.proofs.Accounts.{accountPart, accountsLeft, accounts-start, accounts-turn, accounts-end}
 use Rattle.ledger.proofs.Sound.{account-in, length-accounts}
 
@@ -91,13 +91,13 @@ module _ (b : List ℕ) where
   pub outside-start : oneOutside (ledgerOf b .accounts) ≡ oneOutside (accountsLeft b 0)
   outside-start = ap oneOutside (accounts-start b)
 
-  -- an account read word by word is the account
-  pub outside-read : (j cone days id largest charged credited : ℕ) → cone ≡ ledgerOf b .terms .netCone → days ≡ ledgerOf b .terms .days
+  -- what is told of an account read word by word is told of the account
+  pub outside-read : (j cone days id largest charged credited : ℕ) (told : Bool) → cone ≡ ledgerOf b .terms .netCone → days ≡ ledgerOf b .terms .days
       → let a = accountAt (accountPart b j) in (id ≡ a .id) × (largest ≡ a .largest) × (charged ≡ a .charged) × (credited ≡ a .credited)
-      → accountOutside (record { netCone = cone; days = days }) (record { id = id; largest = largest; charged = charged; credited = credited })
-      ≡ accountOutside (ledgerOf b .terms) (accountAt (accountPart b j))
-  outside-read j cone days id largest charged credited e f (p, q, r, s) =
-      ap₂ accountOutside (λ i. record { netCone = e i; days = f i }) (λ i. record { id = p i; largest = q i; charged = r i; credited = s i })
+      → told ≡ accountOutside (record { netCone = cone; days = days }) (record { id = id; largest = largest; charged = charged; credited = credited })
+      → accountOutside (ledgerOf b .terms) (accountAt (accountPart b j)) ≡ told
+  outside-read j cone days id largest charged credited told e f (p, q, r, s) g =
+      sym (g ∙ ap₂ accountOutside (λ i. record { netCone = e i; days = f i }) (λ i. record { id = p i; largest = q i; charged = r i; credited = s i }))
 
   -- it depends on the accounts from j on
   module _ (j : ℕ) (left : oneOutside (ledgerOf b .accounts) ≡ oneOutside (accountsLeft b j)) where
@@ -148,3 +148,75 @@ module _ (b : List ℕ) where
       → carried ≡ ledgerOf b .carried → doesNotClose (ledgerOf b) ≡ not (eqb charged (credited + carried))
   unfolding doesNotClose
   sums-test charged credited carried e f g = rw (e, f, g)
+
+-- one alternative that holds makes them hold
+or-first : (s t : Bool) → s ≡ true → (s || t) ≡ true
+or-first true t e = refl
+or-first false t e = absurd (false≢true e)
+
+or-second : (s t : Bool) → t ≡ true → (s || t) ≡ true
+or-second true t e = refl
+or-second false t e = e
+
+ruleset holds = (or-first, or-second, lt-ltb)
+
+-- ground 6: one test that holds refuses
+module _ (b : List ℕ) where
+  pub ledger-short : length b < ledgerHeaderBytes → notALedger b ≡ true
+  unfolding notALedger
+  ledger-short h = search holds depth 20
+
+  pub layout-refused : notLaidOut b ≡ true → notALedger b ≡ true
+  unfolding notALedger
+  layout-refused e = search holds depth 20
+
+  pub terms-refused : termsOutside (ledgerOf b .terms) ≡ true → notALedger b ≡ true
+  unfolding notALedger
+  terms-refused e = search holds depth 20
+
+  pub count-low : accountCount b < 1 → notALedger b ≡ true
+  unfolding notALedger outside
+  count-low h = search holds depth 20
+
+  pub count-high : mostIds < accountCount b → notALedger b ≡ true
+  unfolding notALedger outside
+  count-high h = search holds depth 20
+
+  pub ids-refused : idsOutOfOrder (idsIn (ledgerOf b)) ≡ true → notALedger b ≡ true
+  unfolding notALedger
+  ids-refused e = search holds depth 20
+
+  pub accounts-beyond : length b < ledgerBytes (accountCount b) → notALedger b ≡ true
+  unfolding notALedger
+  accounts-beyond h = search holds depth 20
+
+  pub earliest-high : intervalsPerDay * ledgerOf b .terms .days < ledgerOf b .earliest → notALedger b ≡ true
+  unfolding notALedger
+  earliest-high h = search holds depth 20
+
+  pub carried-high : mostCents < ledgerOf b .carried → notALedger b ≡ true
+  unfolding notALedger
+  carried-high h = search holds depth 20
+
+  pub accounts-refused : oneOutside b (ledgerOf b .accounts) ≡ true → notALedger b ≡ true
+  unfolding notALedger
+  accounts-refused e = search holds depth 20
+
+  -- no other test holds, so the sums decide
+  pub sums-decide : ledgerHeaderBytes ≤ length b → notLaidOut b ≡ false → termsOutside (ledgerOf b .terms) ≡ false → 1 ≤ accountCount b → accountCount b ≤ mostIds
+      → idsOutOfOrder (idsIn (ledgerOf b)) ≡ false → ledgerBytes (accountCount b) ≤ length b → ledgerOf b .earliest ≤ intervalsPerDay * ledgerOf b .terms .days
+      → ledgerOf b .carried ≤ mostCents → oneOutside b (ledgerOf b .accounts) ≡ false → notALedger b ≡ doesNotClose (ledgerOf b)
+  unfolding notALedger outside
+  sums-decide header layout terms some few ids room earliest carried accounts =
+      rw (
+        le-ltb (length b) ledgerHeaderBytes header,
+        layout,
+        terms,
+        le-ltb (accountCount b) 1 some,
+        le-ltb mostIds (accountCount b) few,
+        ids,
+        le-ltb (length b) (ledgerBytes (accountCount b)) room,
+        le-ltb (intervalsPerDay * ledgerOf b .terms .days) (ledgerOf b .earliest) earliest,
+        le-ltb mostCents (ledgerOf b .carried) carried,
+        accounts,
+      )

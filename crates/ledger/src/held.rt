@@ -1,8 +1,8 @@
 // Ground 6: whether a buffer holds a ledger. Each number is bounded before it is multiplied or summed.
 
+use crate::layout::ACCOUNT_BYTES;
 use crate::layout::ACCOUNTS;
 use crate::layout::ACCOUNTS_OFFSET;
-use crate::layout::ACCOUNT_BYTES;
 use crate::layout::Account;
 use crate::layout::CARRIED;
 use crate::layout::DAYS;
@@ -75,7 +75,7 @@ fn account_outside(cone: u64, days: u64, a: Account) -> bool
     requires { ⌜ days ≤ 366 ⌝ }
     ensures { λ r.
         ⌜ r ≡ accountOutside (record { netCone = cone; days = days })
-            (record { id = a .id; largest = a .largest .0; charged = a .charged .0; credited = a .credited .0 }) ⌝ }
+        (record { id = a .id; largest = a .largest .0; charged = a .charged .0; credited = a .credited .0 }) ⌝ }
 {
     if MOST_KILOWATTS < a.largest.0 {
         return true;

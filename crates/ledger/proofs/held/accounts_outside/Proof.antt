@@ -46,7 +46,7 @@ returns c =
     let l = test .before .before .before in
     let b = l .before .before .before .before .before .args .ledger .now in
     let inv = l .loop .inv in
-    let says = sym (outside-read b (l .loop .j) _ _ _ _ _ _ (inv .0) (inv .1 .0) (test .before .account-at .ensures)) ∙ sym (test .account-outside .ensures) in
+    let says = outside-read b (l .loop .j) _ _ _ _ _ _ _ (inv .0) (inv .1 .0) (test .before .account-at .ensures) (test .account-outside .ensures) in
     sym (account-fails b (l .loop .j) (inv .1 .1 .1 .1) (omega arith) (says ∙ c .if1 .taken))
 
 add-j : tie.Need-add-j Inv-loop μ-loop
@@ -61,7 +61,7 @@ loop-again c =
     let l = test .before .before .before in
     let b = l .before .before .before .before .before .args .ledger .now in
     let inv = l .loop .inv in
-    let says = sym (outside-read b (l .loop .j) _ _ _ _ _ _ (inv .0) (inv .1 .0) (test .before .account-at .ensures)) ∙ sym (test .account-outside .ensures) in
+    let says = outside-read b (l .loop .j) _ _ _ _ _ _ _ (inv .0) (inv .1 .0) (test .before .account-at .ensures) (test .account-outside .ensures) in
     (inv .0, (inv .1 .0, (inv .1 .1 .0, (omega arith, account-passes b (l .loop .j) (inv .1 .1 .1 .1) (omega arith) (says ∙ c .if1 .left)))))
 
 returns-2 : tie.Need-returns-2 Inv-loop μ-loop

@@ -60,16 +60,10 @@ loop-again c =
     let l = c .before .before .before .before in
     let b = l .before .before .before .args .ledger .now in
     let inv = l .loop .inv in
-    let a = c .before .before .account-at .ensures in (
-      inv .0,
-      (
-        omega arith,
-        (
-          sum-turn b (λ a. a .charged) (l .loop .j) _ _ _ (omega arith) (inv .1 .1 .0) (a .2),
-          sum-turn b (λ a. a .credited) (l .loop .j) _ _ _ (omega arith) (inv .1 .1 .1) (a .3)
-        )
-      )
-    )
+    let a = c .before .before .account-at .ensures in
+    let charged = sum-turn b (λ a. a .charged) (l .loop .j) _ _ _ (omega arith) (inv .1 .1 .0) (a .2) in
+    let credited = sum-turn b (λ a. a .credited) (l .loop .j) _ _ _ (omega arith) (inv .1 .1 .1) (a .3) in
+    (inv .0, (omega arith, (charged, credited)))
 
 word-requires-2 : tie.Need-word-requires-2 Inv-loop μ-loop
 unfolding ledgerBytes
