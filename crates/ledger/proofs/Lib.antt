@@ -3,6 +3,7 @@ pub mod Listing
 pub mod Accounts
 pub mod Beside
 pub mod Meeting
+pub mod ScratchLaws
 pub mod Sound
 pub mod LedgerBack
 pub mod Given

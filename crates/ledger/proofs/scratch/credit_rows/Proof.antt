@@ -1,74 +1,77 @@
+-- `ledger::scratch::credit_rows` meets its contract. What is left to credit is the rows from i on, whose words are as they came.
+use Prim.Native.Nat.{_+_, _-_, _*_, _≤_}
+use mathlib.Core.Path.{_≡_, refl, sym, _∙_}
+use native.Mathlib.Omega.{arith}
+use borrow.Author.Needs.{needs}
+use lib.ListN.{length, drop, length-set}
+use Rattle.ledger.specs.Scratch.{withCredits}
+use Rattle.ledger.proofs.ScratchLaws.{same-word, same-later, creditsLeft, credit-start, credit-turn, credit-end}
 use Rattle.ledger.proofs.scratch.credit_rows.Statement.{statement}
 use Rattle.ledger.proofs.scratch.credit_rows.Tie as tie
-use Rattle.ledger.proofs.scratch.credit_rows.Reads as reads
-use Rattle.ledger.proofs.scratch.credit_rows.Lts as lts
-use Rattle.assessment.proofs.rules.share.Reads as share-reads
 
 abbrev Inv-loop : tie.InvT-loop
-Inv-loop rows₀ n pool total i₀ rows i = ?
+Inv-loop rows₀ n pool total i₀ rows i =
+    (i ≤ n) × ((length rows ≡ 8 * n) × ((drop (8 * i) rows ≡ drop (8 * i) rows₀) × (creditsLeft (pool .0) (total .0) n rows i ≡ withCredits (pool .0) (total .0) n rows₀)))
 
 abbrev μ-loop : tie.MeasureT-loop
-μ-loop rows₀ n pool total i₀ rows i = ?
+μ-loop rows₀ n pool total i₀ rows i = n - i
 
--- src/scratch.rt:62:5
 loop-holds : tie.Need-loop-holds Inv-loop μ-loop
-loop-holds c = ?
+loop-holds c = (omega arith, (omega arith, (refl, credit-start _ _ _ _)))
 
--- src/scratch.rt:63:55
 mul-t8 : tie.Need-mul-t8 Inv-loop μ-loop
-mul-t8 c = ?
+mul-t8 c = search needs
 
--- src/scratch.rt:63:55
 add-t9 : tie.Need-add-t9 Inv-loop μ-loop
-add-t9 c = ?
+add-t9 c = search needs
 
--- src/scratch.rt:63:50
 mul-t10 : tie.Need-mul-t10 Inv-loop μ-loop
-mul-t10 c = ?
+mul-t10 c = search needs
 
--- src/scratch.rt:63:50
 slice-read-t12 : tie.Need-slice-read-t12 Inv-loop μ-loop
-slice-read-t12 c = ?
+slice-read-t12 c = search needs
 
--- src/scratch.rt:63:13
 share-requires : tie.Need-share-requires Inv-loop μ-loop
-share-requires c κs = ?
+share-requires c κs =
+    let l = c .before .before in
+    let pre = l .before .before .pre in
+    let at = 8 * l .loop .i in
+    (pre .1 .0, omega (arith, same-word at 5 _ _ (l .loop .inv .1 .1 .0), pre .1 .1 (l .loop .i)))
 
--- src/scratch.rt:64:14
 mul-rows : tie.Need-mul-rows Inv-loop μ-loop
-mul-rows c = ?
+mul-rows c = search needs
 
--- src/scratch.rt:64:14
 add-rows : tie.Need-add-rows Inv-loop μ-loop
-add-rows c = ?
+add-rows c = search needs
 
--- src/scratch.rt:64:9
 mul-rows-2 : tie.Need-mul-rows-2 Inv-loop μ-loop
-mul-rows-2 c = ?
+mul-rows-2 c = search needs
 
--- src/scratch.rt:64:9
 slice-write-rows : tie.Need-slice-write-rows Inv-loop μ-loop
-slice-write-rows c = ?
+slice-write-rows c = search needs
 
--- src/scratch.rt:65:9
 add-i : tie.Need-add-i Inv-loop μ-loop
-add-i c = ?
+add-i c = search needs
 
--- src/scratch.rt:62:5
 loop-less : tie.Need-loop-less Inv-loop μ-loop
-loop-less c = ?
+loop-less c = search needs
 
--- src/scratch.rt:62:5
 loop-again : tie.Need-loop-again Inv-loop μ-loop
-loop-again c = ?
+loop-again c =
+    let l = c .before .before .before in
+    let i = l .loop .i in
+    let inv = l .loop .inv in
+    let now = l .loop .rows in
+    let on = credit-turn _ _ _ now i _ (omega arith) (inv .1 .0) (c .share .ensures) in
+    (omega arith, (length-set now (8 * i + 7) _ ∙ inv .1 .0, (same-later i _ now _ (inv .1 .1 .0), on ∙ inv .1 .1 .1)))
 
--- src/scratch.rt:55:1
 same-length : tie.Need-same-length Inv-loop μ-loop
-same-length c = ?
+same-length c = search needs
 
--- src/scratch.rt:55:1
 returns : tie.Need-returns Inv-loop μ-loop
-returns c = ?
+returns c =
+    let l = c .before in
+    sym (credit-end _ _ _ (l .loop .rows) (l .loop .i) (omega arith)) ∙ l .loop .inv .1 .1 .1
 
 pub credit-rows-spec : {M : Type 1} → statement M
 credit-rows-spec =

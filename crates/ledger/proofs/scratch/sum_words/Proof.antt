@@ -1,53 +1,56 @@
+-- `ledger::scratch::sum_words` meets its contract. What is left to add is word k of the rows from i on.
+use Prim.Native.Nat.{_+_, _-_, _*_, _≤_}
+use mathlib.Core.Path.{_≡_}
+use native.Mathlib.Omega.{arith}
+use borrow.Author.Needs.{needs}
+use lib.ListN.{drop}
+use Rattle.ledger.specs.Scratch.{sumOfWord}
+use Rattle.ledger.proofs.ScratchLaws.{sum-of-start, sum-of-turn, sum-of-end}
 use Rattle.ledger.proofs.scratch.sum_words.Statement.{statement}
 use Rattle.ledger.proofs.scratch.sum_words.Tie as tie
-use Rattle.ledger.proofs.scratch.sum_words.Reads as reads
-use Rattle.ledger.proofs.scratch.sum_words.Lts as lts
 
 abbrev Inv-loop : tie.InvT-loop
-Inv-loop rows n k sum₀ i₀ sum i = ?
+Inv-loop rows n k sum₀ i₀ sum i = (i ≤ n) × (sum + sumOfWord k (n - i) (drop (8 * i) rows) ≡ sumOfWord k n rows)
 
 abbrev μ-loop : tie.MeasureT-loop
-μ-loop rows n k sum₀ i₀ sum i = ?
+μ-loop rows n k sum₀ i₀ sum i = n - i
 
--- src/scratch.rt:47:5
 loop-holds : tie.Need-loop-holds Inv-loop μ-loop
-loop-holds c = ?
+loop-holds c = (omega arith, sum-of-start _ _ _)
 
--- src/scratch.rt:48:21
 mul-sum : tie.Need-mul-sum Inv-loop μ-loop
-mul-sum c = ?
+mul-sum c = search needs
 
--- src/scratch.rt:48:21
 add-sum : tie.Need-add-sum Inv-loop μ-loop
-add-sum c = ?
+add-sum c = search needs
 
--- src/scratch.rt:48:16
 mul-sum-2 : tie.Need-mul-sum-2 Inv-loop μ-loop
-mul-sum-2 c = ?
+mul-sum-2 c = search needs
 
--- src/scratch.rt:48:16
 shared-slice-read-sum : tie.Need-shared-slice-read-sum Inv-loop μ-loop
-shared-slice-read-sum c = ?
+shared-slice-read-sum c = search needs
 
--- src/scratch.rt:48:9
 add-sum-2 : tie.Need-add-sum-2 Inv-loop μ-loop
-add-sum-2 c = ?
+add-sum-2 c =
+    let l = c .before .before in
+    let all = sum-of-turn _ _ _ (l .loop .i) _ _ (omega arith) (l .loop .inv .1) in
+    omega (arith, all)
 
--- src/scratch.rt:49:9
 add-i : tie.Need-add-i Inv-loop μ-loop
-add-i c = ?
+add-i c = search needs
 
--- src/scratch.rt:47:5
 loop-less : tie.Need-loop-less Inv-loop μ-loop
-loop-less c = ?
+loop-less c = search needs
 
--- src/scratch.rt:47:5
 loop-again : tie.Need-loop-again Inv-loop μ-loop
-loop-again c = ?
+loop-again c =
+    let l = c .before .before in
+    (omega arith, sum-of-turn _ _ _ (l .loop .i) _ _ (omega arith) (l .loop .inv .1))
 
--- src/scratch.rt:39:1
 returns : tie.Need-returns Inv-loop μ-loop
-returns c = ?
+returns c =
+    let l = c .before in
+    sum-of-end _ _ _ (l .loop .i) _ _ (omega arith) (l .loop .inv .1)
 
 pub sum-words-spec : {M : Type 1} → statement M
 sum-words-spec =
