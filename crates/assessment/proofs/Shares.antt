@@ -95,7 +95,7 @@ credits-le v =
     omega (arith, given, shared-le (λ c. c .figures .bonus) (pool v) (v .rows))
 
 -- a row not considered has no bonus, and so no share to be denied
-credit-is-share : (v : Assessed) (t : Terms) (accounts : List Account) (q : Ratio) (r : Row)
+pub credit-is-share : (v : Assessed) (t : Terms) (accounts : List Account) (q : Ratio) (r : Row)
     → credit v (chargedRow t accounts q r) ≡ share (pool v) (totalBonus v) (chargedRow t accounts q r .figures .bonus)
 unfolding credit chargedRow rowFigures ifConsidered
 credit-is-share v t accounts q r = by (considered r)

@@ -4,6 +4,7 @@ pub mod Accounts
 pub mod Beside
 pub mod Meeting
 pub mod ScratchLaws
+pub mod SettledLaws
 pub mod Sound
 pub mod LedgerBack
 pub mod Given

@@ -24,14 +24,14 @@ use reading::interval::INTERVAL;
 use reading::interval::ROWS;
 use reading::interval::word;
 ghost use mathlib.Core.Path.{_≡_};
-ghost use Prim.Native.Nat.{_+_, _*_, _≤_};
-ghost use lib.ListN.{length, take};
+ghost use Prim.Native.Nat.{ℕ, _+_, _*_, _≤_};
+ghost use lib.ListN.{length, take, getD};
 ghost use Rattle.words.specs.Words.{written};
 ghost use Rattle.words.specs.Grounds.{answered};
 ghost use Rattle.reading.specs.Interval.{headerOf, rowsOf};
-ghost use Rattle.assessment.specs.Assessment.{numerator, denominator, charges, pool};
+ghost use Rattle.assessment.specs.Assessment.{numerator, denominator, charges, pool, carriedOn};
 ghost use Rattle.ledger.specs.Ledger.{ledgerWords};
-ghost use Rattle.ledger.specs.Settling.{assessedFile, resultWords, settledLedger, settlingGrounds, settling as settlingOf};
+ghost use Rattle.ledger.specs.Settling.{assessedFile, rowWords, resultWords, settledLedger, settlingGrounds, settling as settlingOf};
 ghost use Rattle.ledger.specs.Scratch.{Passed, chargedWords};
 
 const MOST_CENTS: u64 = 1099511627775;
@@ -66,6 +66,22 @@ fn assess(ledger: &[u8], file: &[u8], rows: &mut [u64]) -> Charged
         lower,
         charges,
     }
+}
+
+// Writes the ledger after a file: word 3 its interval plus 1, word 4 the cents carried, and the accounts with its rows posted.
+fn write_ledger(ledger: &mut [u8], file: &[u8], rows: &[u64], rest: Cents)
+    requires { ⌜ Passed (now ledger) (now file) ⌝ }
+    requires { ⌜ now rows ≡ rowWords (assessedFile (now ledger) (now file)) (assessedFile (now ledger) (now file) .rows) ⌝ }
+    requires { ⌜ ((k : ℕ) → getD (now rows) k 0 ≤ 1099511627775) ⌝ }
+    requires { ⌜ rest .0 ≡ carriedOn (assessedFile (now ledger) (now file)) ⌝ }
+    ensures { λ _. ⌜ now (ledger .exit) ≡ written (ledgerWords (settledLedger (now (ledger .entry)) (now (file .entry)))) (now (ledger .entry)) ⌝ }
+{
+    let cone = ledger_word(ledger, NET_CONE);
+    let days = ledger_word(ledger, DAYS);
+    let accounts = ledger_word(ledger, ACCOUNTS);
+    let next = word(file, INTERVAL) + 1;
+    post_rows(ledger, file, rows);
+    write_header(ledger, cone, days, next, rest, accounts);
 }
 
 // Shares the pool, and writes the result and the ledger of a file that no ground refuses.
@@ -106,11 +122,7 @@ fn write_settled(
         sums.lower,
         count,
     );
-    post_rows(ledger, file, rows);
-    let cone = ledger_word(ledger, NET_CONE);
-    let days = ledger_word(ledger, DAYS);
-    let accounts = ledger_word(ledger, ACCOUNTS);
-    write_header(ledger, cone, days, word(file, INTERVAL) + 1, rest, accounts);
+    write_ledger(ledger, file, rows, rest);
 }
 
 // Settles a file that grounds 6 to 15 do not refuse: 16 is answered from the charges as cut by the limits, before any byte that was lent is written.
