@@ -20,4 +20,5 @@ pub mod HeldTests
 pub mod OpeningTests
 pub mod OpeningWrites
 pub mod SettlingTests
+pub mod SettlingEnds
 pub mod Impostors

@@ -16,7 +16,7 @@ use Rattle.words.proofs.Tests.{not-first, not-second}
 use Rattle.reading.specs.Block.{Terms}
 use Rattle.reading.specs.Interval.{mostKilowatts, mostRows, Header, Row, headerOf, rowsOf, rowOutside}
 use Rattle.reading.proofs.Bounds.{TermsIn, terms-in, HeaderIn, header-in, RowIn, row-in, length-rows}
-use Rattle.assessment.specs.Assessment.{Ratio, ratioOf, numerator, denominator, printedRatio, ifConsidered, Account, accountOf, raised, limit, charge, rowFigures, ChargedRow, chargedRow, Assessed, assessed, charges, totalBonus, pool, share, credit, credits, carriedOn}
+use Rattle.assessment.specs.Assessment.{Ratio, ratioOf, numerator, denominator, portion, printedRatio, ifConsidered, Account, accountOf, raised, limit, charge, rowFigures, ChargedRow, chargedRow, Assessed, assessed, charges, totalBonus, pool, share, credit, credits, carriedOn}
 use Rattle.assessment.proofs.Promises.{if-le, FiguresIn, figures-in, numerator-le}
 use Rattle.assessment.proofs.Limits.{limit-le, charge-le, mostLimit}
 use Rattle.assessment.proofs.Shares.{credits-le, credit-is-share}
@@ -233,3 +233,74 @@ module _ (ledger file : List ℕ) (p : Passed ledger file) where
       let posts = map (postedAll v (v .rows)) (ledgerOf ledger .accounts) in
       let all : count ≡ length posts = e ∙ sym (length-map (ledgerOf ledger .accounts) (postedAll v (v .rows)) ∙ length-accounts ledger) in
       λ k. 1 ∷ a k ∷ b k ∷ c k ∷ d k ∷ all k ∷ 8 ∷ 0 ∷ accountWords posts
+
+  -- what the sums over scratch words require, and what they come to
+  module _ (ws : List ℕ) (n : ℕ) (rows : n ≡ headerOf file .rowCount) where
+    module _ (words : ws ≡ chargedWords (v .rows)) where
+      charged-length : length ws ≡ 8 * n
+      charged-length = ap length words ∙ length-charged (v .rows) ∙ ap (λ k. 8 * k) (count-is ∙ sym rows)
+
+      pub charges-are : sumOfWord 6 n ws ≡ charges v
+      charges-are = ap₂ (sumOfWord 6) rows words ∙ charges-sum
+
+      pub charges-required : (length ws ≡ 8 * n) × ((6 < 8) × (sumOfWord 6 n ws < 2 ^ 64))
+      charges-required = (charged-length, (omega arith, omega (arith, charges-are, charges-fit)))
+
+      pub bonus-is : sumOfWord 5 n ws ≡ totalBonus v
+      bonus-is = ap₂ (sumOfWord 5) rows words ∙ bonus-sum
+
+      pub bonus-required : (length ws ≡ 8 * n) × ((5 < 8) × (sumOfWord 5 n ws < 2 ^ 64))
+      bonus-required = (charged-length, (omega arith, omega (arith, bonus-is, bonus-fits)))
+
+      pub credit-required : (cents : ℕ) → cents ≤ mostCents → (length ws ≡ 8 * n) × ((cents ≤ 1099511627775) × ((i : ℕ) → getD ws (8 * i + 5) 0 ≤ 8000000))
+      credit-required cents small = (charged-length, (small, λ i. rw words (each-bonus i)))
+
+      pub credited-is : (cents bonus : ℕ) → cents ≡ pool v → bonus ≡ sumOfWord 5 n ws → withCredits cents bonus n ws ≡ rowWords v (v .rows)
+      credited-is cents bonus e f = (λ k. withCredits (e k) ((f ∙ bonus-is) k) (rows k) (words k)) ∙ credited
+
+    module _ (words : ws ≡ rowWords v (v .rows)) where
+      pub credited-length : length ws ≡ 8 * n
+      credited-length = ap length words ∙ length-row-words v (v .rows) ∙ ap (λ k. 8 * k) (count-is ∙ sym rows)
+
+      pub credits-are : sumOfWord 7 n ws ≡ credits v
+      credits-are = ap₂ (sumOfWord 7) rows words ∙ credits-sum
+
+      pub credits-required : pool v ≤ mostCents → (length ws ≡ 8 * n) × ((7 < 8) × (sumOfWord 7 n ws < 2 ^ 64))
+      credits-required small = (credited-length, (omega arith, omega (arith, credits-are, credits-le v, small)))
+
+  -- cents less than the pool by its credits are those carried on
+  pub rest-is : (cents given : ℕ) → cents ≡ pool v → given ≡ credits v → cents - given ≡ carriedOn v
+  unfolding carriedOn
+  rest-is cents given e f = ap₂ _-_ e f
+
+  pub given-le : (cents given : ℕ) → cents ≡ pool v → given ≡ credits v → given ≤ cents
+  given-le cents given e f = omega (arith, e, f, credits-le v)
+
+  -- the ratio that is printed
+  pub printed-is : (ratio upper lower : ℕ) → upper ≡ numerator (headerOf file) (rowsOf file) → lower ≡ denominator (rowsOf file)
+      → ratio ≡ portion (record { numerator = upper; denominator = lower }) 1000000 → ratio ≡ printedRatio (v .ratio)
+  unfolding printedRatio
+  printed-is ratio upper lower e f g = g ∙ (λ k. portion (record { numerator = e k; denominator = f k }) 1000000) ∙ ap (λ q. portion q 1000000) (sym ratio-is)
+
+  -- the pool
+  pub pool-of : (carried charged : ℕ) → carried ≡ ledgerOf ledger .carried → charged ≡ charges v → carried + charged ≡ pool v
+  unfolding pool assessedFile assessed
+  pool-of carried charged e f = ap₂ _+_ e f
+
+  -- accounts and header make up the ledger
+  pub ledger-written : (x y : List ℕ) (cone days next rest count : ℕ) → ledgerHeaderBytes ≤ length ledger → cone ≡ ledgerOf ledger .terms .netCone
+      → days ≡ ledgerOf ledger .terms .days → next ≡ headerOf file .interval + 1 → rest ≡ carriedOn v → count ≡ accountCount ledger
+      → x ≡ writtenAt ledgerHeaderBytes (accountWords (map (postedAll v (v .rows)) (ledgerOf ledger .accounts))) ledger
+      → y ≡ written (1 ∷ cone ∷ days ∷ next ∷ rest ∷ count ∷ 8 ∷ 0 ∷ []) x → y ≡ written (ledgerWords (settledLedger ledger file)) ledger
+  ledger-written x y cone days next rest count room a b c d e posts header =
+      let words : List ℕ = 1 ∷ cone ∷ days ∷ next ∷ rest ∷ count ∷ 8 ∷ 0 ∷ [] in
+      let accounts = accountWords (map (postedAll v (v .rows)) (ledgerOf ledger .accounts)) in
+      header ∙ ap (written words) posts ∙ write-front words accounts ledger room ∙ ap (λ ws. written ws ledger) (ledger-is cone days next rest count a b c d e)
+
+  -- the interval's words and the rows' make up the result
+  pub result-written : (r y : List ℕ) (ratio charged given rest bonus upper lower count : ℕ) (ws : List ℕ) → ratio ≡ printedRatio (v .ratio) → charged ≡ charges v
+      → given ≡ credits v → rest ≡ carriedOn v → bonus ≡ totalBonus v → upper ≡ numerator (headerOf file) (rowsOf file) → lower ≡ denominator (rowsOf file)
+      → count ≡ headerOf file .rowCount → ws ≡ rowWords v (v .rows)
+      → y ≡ written (ratio ∷ charged ∷ given ∷ rest ∷ bonus ∷ upper ∷ lower ∷ count ∷ ws) r → y ≡ written (resultWords v) r
+  result-written r y ratio charged given rest bonus upper lower count ws a b c d e f g h w put =
+      put ∙ ap (λ ws. written ws r) (result-is ratio charged given rest bonus upper lower count ws a b c d e f g h w)

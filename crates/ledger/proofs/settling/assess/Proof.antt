@@ -1,36 +1,44 @@
+-- `ledger::settling::assess` meets its contract. The two sides, then the rows' words, then the sum of their charges.
+use Prim.Native.Nat.{_≤_, _^_}
+use mathlib.Core.Path.{sym, _∙_, subst}
+use Rattle.reading.specs.Interval.{headerOf}
+use Rattle.ledger.proofs.SettledLaws.{numerator-fits, charges-required, charges-are}
 use borrow.Author.Needs.{needs}
 use Rattle.ledger.proofs.settling.assess.Statement.{statement}
 use Rattle.ledger.proofs.settling.assess.Tie as tie
-use Rattle.ledger.proofs.settling.assess.Reads as reads
-use Rattle.ledger.proofs.settling.assess.Lts as lts
-use Rattle.assessment.proofs.sums.ratio_sides.Reads as ratio-sides-reads
-use Rattle.ledger.proofs.charging.charge_rows.Reads as charge-rows-reads
-use Rattle.ledger.proofs.scratch.sum_words.Reads as sum-words-reads
-use Rattle.reading.proofs.interval.word.Reads as word-reads
 
--- src/settling.rt:59:9
 ratio-sides-requires : tie.Need-ratio-sides-requires
 ratio-sides-requires c κs = search needs
 
--- src/settling.rt:62:5
 charge-rows-requires : tie.Need-charge-rows-requires
-charge-rows-requires c κs = ?
+charge-rows-requires c κs =
+    let sides = c .before .before .before in
+    let start = sides .before .before .before .before in
+    let upper = sides .ratio-sides .ensures .0 in
+    (start .pre .0, (upper, (subst (λ n. n ≤ 2 ^ 40) (sym upper) (numerator-fits _ _ (start .pre .0)), (sides .ratio-sides .ensures .1, start .pre .1))))
 
--- src/settling.rt:63:41
 word-requires : tie.Need-word-requires
 word-requires c κs = search needs
 
--- src/settling.rt:63:25
 sum-words-requires : tie.Need-sum-words-requires
-sum-words-requires c κs = ?
+unfolding headerOf
+sum-words-requires c κs =
+    let charged = c .before .before .before .before in
+    let start = charged .before .before .before .before .before .before .before .before in
+    charges-required _ _ (start .pre .0) _ _ (c .word .ensures .0) (charged .charge-rows .ensures)
 
--- src/settling.rt:51:1
 same-length : tie.Need-same-length
 same-length c = search needs
 
--- src/settling.rt:51:1
 returns : tie.Need-returns
-returns c = ?
+unfolding headerOf
+returns c =
+    let charged = c .before .before .before .before .before in
+    let sides = charged .before .before .before .before in
+    let start = sides .before .before .before .before in
+    let words = charged .charge-rows .ensures in
+    let sum = c .sum-words .ensures ∙ charges-are _ _ (start .pre .0) _ _ (c .before .word .ensures .0) words in
+    (words, (sides .ratio-sides .ensures .0, (sides .ratio-sides .ensures .1, sum)))
 
 pub assess-spec : {M : Type 1} → statement M
 assess-spec =

@@ -1,57 +1,60 @@
+-- `ledger::settling::npa_settle` meets its contract. A refusal of grounds 6 to 15 writes nothing; otherwise the rows' words are kept in scratch of its own.
+use native.Mathlib.Omega.{arith}
+use Prim.Native.Nat.{_*_, _≤_}
+use mathlib.Core.Path.{_≡_, sym, ap, _∙_}
+use lib.Seq.{length-take-le}
+use Rattle.reading.specs.Interval.{headerOf}
+use Rattle.ledger.proofs.SettlingTests.{beforePool, passed}
+use Rattle.ledger.proofs.SettlingEnds.{end-refused}
 use borrow.Author.Needs.{needs}
 use Rattle.ledger.proofs.settling.npa_settle.Statement.{statement}
 use Rattle.ledger.proofs.settling.npa_settle.Tie as tie
-use Rattle.ledger.proofs.settling.npa_settle.Reads as reads
-use Rattle.ledger.proofs.settling.npa_settle.Lts as lts
-use Rattle.ledger.proofs.grounds.refusal.Reads as refusal-reads
-use Rattle.ledger.proofs.settling.settle.Reads as settle-reads
-use Rattle.reading.proofs.interval.word.Reads as word-reads
 
--- src/settling.rt:140:9
+-- no ground of 6 to 15 applies
+none-applies : (c : tie.Else1) → let start = c .before .before .before .before .before .before .before in beforePool (start .args .ledger .now) (start .args .file .now) (start .args .result .now) ≡ 0
+none-applies c = sym (c .before .refusal .ensures) ∙ c .if1 .left
+
+-- the rows' words fit the scratch
+fits : (c : tie.After-word) → 8 * c .word .result ≤ 4096
+unfolding headerOf
+fits c = omega (arith, c .word .ensures .0, passed _ _ _ (none-applies (c .before)) .rows-few)
+
 refusal-requires : tie.Need-refusal-requires
 refusal-requires c κs = search needs
 
--- src/settling.rt:142:9
 same-length : tie.Need-same-length
 same-length c = search needs
 
--- src/settling.rt:142:9
 same-length-2 : tie.Need-same-length-2
 same-length-2 c = search needs
 
--- src/settling.rt:142:9
 returns : tie.Need-returns
-returns c = ?
+returns c = end-refused _ _ _ _ (c .before .refusal .ensures) (c .if1 .taken)
 
--- src/settling.rt:145:29
 word-requires : tie.Need-word-requires
-word-requires c κs = ?
+word-requires c κs = omega (arith, passed _ _ _ (none-applies c) .header)
 
--- src/settling.rt:145:17
 mul-words : tie.Need-mul-words
 mul-words c = search needs
 
--- src/settling.rt:146:34
 array-borrow-prefix-scratch : tie.Need-array-borrow-prefix-scratch
-array-borrow-prefix-scratch c = ?
+array-borrow-prefix-scratch c = fits (c .before .before)
 
--- src/settling.rt:146:34
 slice-aggregate-settle : tie.Need-slice-aggregate-settle
-slice-aggregate-settle c = ?
+slice-aggregate-settle c = sym (length-take-le _ _ (fits (c .before .before .before)))
 
--- src/settling.rt:146:5
 settle-requires : tie.Need-settle-requires
-settle-requires c κs = ?
+unfolding headerOf
+settle-requires c κs =
+    let word = c .before .before .before in
+    (none-applies (word .before), length-take-le _ _ (fits word) ∙ ap (λ n. 8 * n) (word .word .ensures .0))
 
--- src/settling.rt:134:1
 same-length-3 : tie.Need-same-length-3
 same-length-3 c = search needs
 
--- src/settling.rt:134:1
 same-length-4 : tie.Need-same-length-4
 same-length-4 c = search needs
 
--- src/settling.rt:134:1
 returns-2 : tie.Need-returns-2
 returns-2 c = search needs
 

@@ -1,55 +1,79 @@
+-- `ledger::settling::settle` meets its contract. The pool decides between ground 16, with nothing lent written, and the ledger and result of the file.
+use native.Mathlib.Omega.{arith}
+use Prim.Native.Nat.{_+_}
+use mathlib.Core.Path.{_≡_}
+use Rattle.assessment.specs.Assessment.{pool}
+use Rattle.ledger.specs.Ledger.{ledgerBytes, ledgerOf}
+use Rattle.ledger.specs.Settling.{assessedFile}
+use Rattle.ledger.proofs.SettlingTests.{passed, result-room}
+use Rattle.ledger.proofs.SettlingEnds.{carried-in, end-16, end-settled}
+use Rattle.ledger.proofs.SettledLaws.{charges-fit, pool-of}
 use borrow.Author.Needs.{needs}
 use Rattle.ledger.proofs.settling.settle.Statement.{statement}
 use Rattle.ledger.proofs.settling.settle.Tie as tie
-use Rattle.ledger.proofs.settling.settle.Reads as reads
-use Rattle.ledger.proofs.settling.settle.Lts as lts
-use Rattle.ledger.proofs.layout.word.Reads as word-reads
-use Rattle.ledger.proofs.settling.assess.Reads as assess-reads
-use Rattle.ledger.proofs.settling.write_settled.Reads as write-settled-reads
 
--- src/settling.rt:124:9
+-- the cents of the pool
+pool-is : (c : tie.After-word)
+    → let start = c .before .before .before .before .before .before .before .before .before .before .before in c .word .result + c .before .before .before .before .assess .result .charges .0 ≡ pool (assessedFile (start .args .ledger .now) (start .args .file .now))
+unfolding ledgerOf
+pool-is c =
+    let charged = c .before .before .before .before in
+    let pre = charged .before .before .before .before .before .before .before .pre in
+    pool-of _ _ (passed _ _ _ (pre .0)) _ _ (c .word .ensures) (charged .assess .ensures .1 .1 .1)
+
 assess-requires : tie.Need-assess-requires
-assess-requires c κs = ?
+assess-requires c κs =
+    let pre = c .before .before .before .before .before .before .pre in
+    (passed _ _ _ (pre .0), pre .1)
 
--- src/settling.rt:125:23
 word-requires : tie.Need-word-requires
-word-requires c κs = ?
+unfolding ledgerBytes
+word-requires c κs = omega (arith, passed _ _ _ (c .before .before .before .before .before .before .before .before .before .before .pre .0) .room)
 
--- src/settling.rt:125:23
 add-t14 : tie.Need-add-t14
-add-t14 c = ?
+unfolding ledgerOf
+add-t14 c =
+    let word = c .before in
+    let charged = word .before .before .before .before in
+    let pre = charged .before .before .before .before .before .before .before .pre in
+    let small = carried-in _ _ _ (pre .0) in
+    omega (arith, small, word .word .ensures, charged .assess .ensures .1 .1 .1, charges-fit _ _ (passed _ _ _ (pre .0)))
 
--- src/settling.rt:127:9
 same-length : tie.Need-same-length
 same-length c = search needs
 
--- src/settling.rt:127:9
 same-length-2 : tie.Need-same-length-2
 same-length-2 c = search needs
 
--- src/settling.rt:127:9
 returns : tie.Need-returns
-returns c = ?
+returns c =
+    let word = c .before .before .before in
+    end-16 _ _ _ _ (word .before .before .before .before .before .before .before .before .before .before .before .pre .0) (pool-is word) (c .if1 .taken)
 
--- src/settling.rt:129:5
 write-settled-requires : tie.Need-write-settled-requires
-write-settled-requires c κs = ?
+write-settled-requires c κs =
+    let test = c .before .before .before in
+    let word = test .before .before .before in
+    let charged = word .before .before .before .before in
+    let pre = charged .before .before .before .before .before .before .before .pre in
+    let sums = charged .assess .ensures in
+    (passed _ _ _ (pre .0), (result-room _ _ _ (pre .0), (sums .0, (sums .1 .0, (sums .1 .1 .0, (sums .1 .1 .1, (pool-is word, omega (arith, test .if1 .left))))))))
 
--- src/settling.rt:117:1
 same-length-3 : tie.Need-same-length-3
 same-length-3 c = search needs
 
--- src/settling.rt:117:1
 same-length-4 : tie.Need-same-length-4
 same-length-4 c = search needs
 
--- src/settling.rt:117:1
 same-length-5 : tie.Need-same-length-5
 same-length-5 c = search needs
 
--- src/settling.rt:117:1
 returns-2 : tie.Need-returns-2
-returns-2 c = ?
+returns-2 c =
+    let put = c .before .before .before .before .before .before in
+    let test = put .before .before .before .before in
+    let word = test .before .before .before in
+    end-settled _ _ _ _ _ _ (word .before .before .before .before .before .before .before .before .before .before .before .pre .0) (pool-is word) (omega (arith, test .if1 .left)) (put .write-settled .ensures .0) (put .write-settled .ensures .1)
 
 pub settle-spec : {M : Type 1} → statement M
 settle-spec =

@@ -1,48 +1,55 @@
+-- `ledger::settling::write_ledger` meets its contract. The accounts with the rows posted, then the header before them.
+use native.Mathlib.Omega.{arith}
+use Prim.Native.Nat.{_+_}
+use mathlib.Core.Path.{ap}
+use Rattle.reading.specs.Interval.{headerOf}
+use Rattle.ledger.specs.Ledger.{ledgerBytes, accountCount, ledgerOf}
+use Rattle.ledger.proofs.SettledLaws.{ledger-written}
 use borrow.Author.Needs.{needs}
 use Rattle.ledger.proofs.settling.write_ledger.Statement.{statement}
 use Rattle.ledger.proofs.settling.write_ledger.Tie as tie
-use Rattle.ledger.proofs.settling.write_ledger.Reads as reads
-use Rattle.ledger.proofs.settling.write_ledger.Lts as lts
-use Rattle.ledger.proofs.layout.word.Reads as layout-word-reads
-use Rattle.ledger.proofs.layout.write_header.Reads as write-header-reads
-use Rattle.ledger.proofs.posting.post_rows.Reads as post-rows-reads
-use Rattle.reading.proofs.interval.word.Reads as interval-word-reads
 
--- src/settling.rt:79:9
 word-requires : tie.Need-word-requires
-word-requires c κs = ?
+unfolding ledgerBytes
+word-requires c κs = omega (arith, c .before .before .before .before .pre .0 .room)
 
--- src/settling.rt:80:9
 word-requires-2 : tie.Need-word-requires-2
-word-requires-2 c κs = ?
+unfolding ledgerBytes
+word-requires-2 c κs = omega (arith, c .before .before .before .before .before .before .pre .0 .room)
 
--- src/settling.rt:81:9
 word-requires-3 : tie.Need-word-requires-3
-word-requires-3 c κs = ?
+unfolding ledgerBytes
+word-requires-3 c κs = omega (arith, c .before .before .before .before .before .before .before .before .pre .0 .room)
 
--- src/settling.rt:82:16
 word-requires-4 : tie.Need-word-requires-4
 word-requires-4 c κs = search needs
 
--- src/settling.rt:82:16
 add-next : tie.Need-add-next
 add-next c = search needs
 
--- src/settling.rt:83:5
 post-rows-requires : tie.Need-post-rows-requires
 post-rows-requires c κs = search needs
 
--- src/settling.rt:84:5
 write-header-requires : tie.Need-write-header-requires
-write-header-requires c κs = ?
+unfolding ledgerBytes
+write-header-requires c κs = search needs
 
--- src/settling.rt:72:1
 same-length : tie.Need-same-length
 same-length c = search needs
 
--- src/settling.rt:72:1
 returns : tie.Need-returns
-returns c = ?
+unfolding ledgerBytes ledgerOf accountCount headerOf
+returns c =
+    let header = c .before .before in
+    let posts = header .before .before .before .before in
+    let next = posts .before .before in
+    let count = next .before in
+    let days = count .before .before in
+    let cone = days .before .before in
+    let start = cone .before .before .before .before .before in
+    let p = start .pre .0 in
+    ledger-written _ _ p _ _ _ _ _ _ _ (omega (arith, p .room)) (cone .word .ensures) (days .word2 .ensures) (ap (λ i. i + 1) (next .word4 .ensures .0)) (start .pre .1 .1 .1) (count .word3 .ensures)
+    (posts .post-rows .ensures) (header .write-header .ensures)
 
 pub write-ledger-spec : {M : Type 1} → statement M
 write-ledger-spec =
