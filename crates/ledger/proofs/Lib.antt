@@ -14,6 +14,7 @@ pub mod Calls
 pub mod Books
 pub mod Step
 pub mod Claims
+pub mod PostingLaws
 pub mod OpeningTests
 pub mod OpeningWrites
 pub mod Impostors
