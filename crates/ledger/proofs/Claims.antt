@@ -143,7 +143,7 @@ settling-ground : (ledger file result : List ℕ) → let g = answered (settling
 unfolding settlingGrounds any outside
 settling-ground ledger file result = answered-in 6 16 (settlingGrounds ledger file result) refl
 
-length-rowWords : (v : Assessed) (cs : List ChargedRow) → length (rowWords v cs) ≡ 8 * length cs
+pub length-rowWords : (v : Assessed) (cs : List ChargedRow) → length (rowWords v cs) ≡ 8 * length cs
 unfolding rowWords
 length-rowWords v [] = refl
 length-rowWords v (c ∷ cs) = omega (arith, length-rowWords v cs)

@@ -17,6 +17,7 @@ pub mod Books
 pub mod Step
 pub mod Claims
 pub mod HeldTests
+pub mod PostingLaws
 pub mod OpeningTests
 pub mod OpeningWrites
 pub mod SettlingTests

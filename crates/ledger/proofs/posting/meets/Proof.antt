@@ -1,49 +1,53 @@
+-- `ledger::posting::meets` meets its contract. The row's id is word 0 of the part of the file that it begins.
+use Prim.Native.Nat.{_+_, _*_}
+use native.Mathlib.Omega.{arith}
 use borrow.Author.Needs.{needs}
+use Rattle.reading.specs.Interval.{headerOf}
+use Rattle.assessment.proofs.SumLaws.{part-length}
+use Rattle.ledger.proofs.PostingLaws.{no-row, row-there}
 use Rattle.ledger.proofs.posting.meets.Statement.{statement}
 use Rattle.ledger.proofs.posting.meets.Tie as tie
-use Rattle.ledger.proofs.posting.meets.Reads as reads
-use Rattle.ledger.proofs.posting.meets.Lts as lts
-use Rattle.reading.proofs.interval.word.Reads as word-reads
 
--- src/posting.rt:43:8
 word-requires : tie.Need-word-requires
 word-requires c κs = search needs
 
--- src/posting.rt:44:9
 returns : tie.Need-returns
-returns c = ?
+unfolding headerOf
+returns c = no-row _ _ _ 0 _ (c .before .word .ensures .0) (c .if1 .taken)
 
--- src/posting.rt:46:17
 word-requires-2 : tie.Need-word-requires-2
 word-requires-2 c κs = search needs
 
--- src/posting.rt:47:24
 mul-word : tie.Need-mul-word
 mul-word c = search needs
 
--- src/posting.rt:47:16
 add-word : tie.Need-add-word
 add-word c = search needs
 
--- src/posting.rt:47:10
 sub-word : tie.Need-sub-word
-sub-word c = ?
+unfolding headerOf
+sub-word c = omega arith
 
--- src/posting.rt:47:10
 part-word-start : tie.Need-part-word-start
-part-word-start c = ?
+unfolding headerOf
+part-word-start c = omega arith
 
--- src/posting.rt:47:10
 part-word-end : tie.Need-part-word-end
 part-word-end c = search needs
 
--- src/posting.rt:47:5
 word-requires-3 : tie.Need-word-requires-3
-word-requires-3 c κs = ?
+unfolding headerOf
+word-requires-3 c κs =
+    let second = c .before in
+    let start = second .before .before .before .before in
+    omega (arith, part-length (start .args .file .now) (second .word2 .result + 56 * start .args .i))
 
--- src/posting.rt:38:1
 returns-2 : tie.Need-returns-2
-returns-2 c = ?
+unfolding headerOf
+returns-2 c =
+    let second = c .before .before in
+    let first = second .before in
+    row-there _ _ _ _ _ (first .before .word .ensures .0) (omega arith) (second .word2 .ensures .0) _ (c .word3 .ensures .0)
 
 pub meets-spec : {M : Type 1} → statement M
 meets-spec =
