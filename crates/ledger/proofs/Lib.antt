@@ -4,6 +4,7 @@ pub mod Accounts
 pub mod Beside
 pub mod Meeting
 pub mod Sound
+pub mod ChargingLaws
 pub mod LedgerBack
 pub mod Given
 pub mod PostedSums

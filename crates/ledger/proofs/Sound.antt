@@ -65,7 +65,7 @@ pub record AccountIn (t : Terms) (a : Account) : Type 0 where
   pub charged : a .charged ≤ limit t (a .largest)
   pub credited : a .credited ≤ mostCredited
 
-account-in : (t : Terms) (a : Account) → accountOutside t a ≡ false → AccountIn t a
+pub account-in : (t : Terms) (a : Account) → accountOutside t a ≡ false → AccountIn t a
 unfolding accountOutside
 account-in t a e = record { largest = search facts; charged = search facts; credited = search facts }
 
