@@ -6,6 +6,7 @@ pub mod Meeting
 pub mod ScratchLaws
 pub mod SettledLaws
 pub mod Sound
+pub mod ChargingLaws
 pub mod LedgerBack
 pub mod Given
 pub mod PostedSums

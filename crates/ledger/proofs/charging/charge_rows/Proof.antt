@@ -1,160 +1,184 @@
+-- `ledger::charging::charge_rows` meets its contract. What is left to write is the words of the rows from i on, beside the accounts from j on.
+use Prim.Native.Nat.{ℕ, _-_}
+use mathlib.Core.Path.{ap₂, sym, _∙_}
+use mathlib.Core.Logic.{⊎-elim}
+use native.Mathlib.Nat.{le-refl}
+use native.Mathlib.Omega.{arith}
+use Rattle.reading.specs.Interval.{headerOf}
+use Rattle.assessment.specs.Assessment.{Ratio, ratioOf}
+use Rattle.ledger.specs.Ledger.{ledgerBytes, accountCount, ledgerOf}
+use Rattle.ledger.proofs.ChargingLaws.{Walking, walk-starts, walk-passes, walk-meets, walk-ends, row-few, row-begins, row-holds, account-left, account-few, account-lies, words-lie, curve-asks, figures-asks, charge-asks}
 use Rattle.ledger.proofs.charging.charge_rows.Statement.{statement}
 use Rattle.ledger.proofs.charging.charge_rows.Tie as tie
-use Rattle.ledger.proofs.charging.charge_rows.Reads as reads
-use Rattle.ledger.proofs.charging.charge_rows.Lts as lts
-use Rattle.assessment.proofs.row.row_figures.Reads as row-figures-reads
-use Rattle.ledger.proofs.charging.row_charge.Reads as row-charge-reads
-use Rattle.ledger.proofs.layout.account_at.Reads as account-at-reads
-use Rattle.ledger.proofs.layout.word.Reads as layout-word-reads
-use Rattle.ledger.proofs.scratch.put_row.Reads as put-row-reads
-use Rattle.reading.proofs.interval.curve_at.Reads as curve-at-reads
-use Rattle.reading.proofs.interval.word.Reads as interval-word-reads
 
 abbrev Inv-loop : tie.InvT-loop
-Inv-loop ledger file upper lower rows₀ cone days count first i₀ j₀ rows i j = ?
+Inv-loop ledger file upper lower rows₀ cone days count first i₀ j₀ rows i j =
+    Walking ledger file (record { numerator = upper .0; denominator = lower .0 }) cone days count first rows i j
 
 abbrev μ-loop : tie.MeasureT-loop
-μ-loop ledger file upper lower rows₀ cone days count first i₀ j₀ rows i j = ?
+μ-loop ledger file upper lower rows₀ cone days count first i₀ j₀ rows i j = accountCount ledger - j
 
--- src/charging.rt:54:9
 word-requires : tie.Need-word-requires Inv-loop μ-loop
-word-requires c κs = ?
+unfolding ledgerBytes
+word-requires c κs = omega (arith, c .before .before .before .pre .0 .room)
 
--- src/charging.rt:55:9
 word-requires-2 : tie.Need-word-requires-2 Inv-loop μ-loop
-word-requires-2 c κs = ?
+unfolding ledgerBytes
+word-requires-2 c κs = omega (arith, c .before .before .before .before .pre .0 .room)
 
--- src/charging.rt:56:17
 word-requires-3 : tie.Need-word-requires-3 Inv-loop μ-loop
-word-requires-3 c κs = ?
+word-requires-3 c κs = omega (arith, c .before .before .before .before .before .pre .0 .header)
 
--- src/charging.rt:57:17
 word-requires-4 : tie.Need-word-requires-4 Inv-loop μ-loop
-word-requires-4 c κs = ?
+word-requires-4 c κs = omega (arith, c .before .before .before .before .before .before .pre .0 .header)
 
--- src/charging.rt:60:5
 loop-holds : tie.Need-loop-holds Inv-loop μ-loop
-loop-holds c = ?
+unfolding ledgerOf headerOf
+loop-holds c =
+    let start = c .before .before .before .before .before .before .before in
+    walk-starts (start .pre .0) (c .before .before .before .word .ensures) (c .before .before .word2 .ensures) (c .before .word3 .ensures .0) (c .word4 .ensures .0) (start .pre .1 .1 .1 .1)
 
--- src/charging.rt:61:13
 account-at-requires : tie.Need-account-at-requires Inv-loop μ-loop
-account-at-requires c κs = ?
+account-at-requires c κs = account-lies (c .before .loop .inv) (c .loop-test .taken)
 
--- src/charging.rt:62:27
 mul-row : tie.Need-mul-row Inv-loop μ-loop
-mul-row c = ?
+mul-row c =
+    let turn = c .before in
+    omega (arith, row-few (turn .before .loop .inv) (turn .loop-test .taken))
 
--- src/charging.rt:62:19
 add-row : tie.Need-add-row Inv-loop μ-loop
-add-row c = ?
+add-row c =
+    let turn = c .before in
+    omega (arith, row-few (turn .before .loop .inv) (turn .loop-test .taken), c .before .before .before .word4 .ensures .1)
 
--- src/charging.rt:63:17
 sub-word : tie.Need-sub-word Inv-loop μ-loop
-sub-word c = ?
+sub-word c =
+    let turn = c .before in
+    row-begins (turn .before .loop .inv) (turn .loop-test .taken)
 
--- src/charging.rt:63:17
 part-word-start : tie.Need-part-word-start Inv-loop μ-loop
-part-word-start c = ?
+part-word-start c =
+    let turn = c .before in
+    row-begins (turn .before .loop .inv) (turn .loop-test .taken)
 
--- src/charging.rt:63:17
 part-word-end : tie.Need-part-word-end Inv-loop μ-loop
-part-word-end c = ?
+part-word-end c = le-refl _
 
--- src/charging.rt:63:12
 word-requires-5 : tie.Need-word-requires-5 Inv-loop μ-loop
-word-requires-5 c κs = ?
+word-requires-5 c κs =
+    let turn = c .before .before in
+    omega (arith, row-holds (turn .before .loop .inv) (turn .loop-test .taken))
 
--- src/charging.rt:64:40
 sub-curve-at : tie.Need-sub-curve-at Inv-loop μ-loop
-sub-curve-at c = ?
+sub-curve-at c =
+    let turn = c .before .before .before .before .before in
+    row-begins (turn .before .loop .inv) (turn .loop-test .taken)
 
--- src/charging.rt:64:40
 part-curve-at-start : tie.Need-part-curve-at-start Inv-loop μ-loop
-part-curve-at-start c = ?
+part-curve-at-start c =
+    let turn = c .before .before .before .before .before in
+    row-begins (turn .before .loop .inv) (turn .loop-test .taken)
 
--- src/charging.rt:64:40
 part-curve-at-end : tie.Need-part-curve-at-end Inv-loop μ-loop
-part-curve-at-end c = ?
+part-curve-at-end c = le-refl _
 
--- src/charging.rt:64:17
 curve-at-requires : tie.Need-curve-at-requires Inv-loop μ-loop
-curve-at-requires c κs = ?
+curve-at-requires c κs =
+    let turn = c .before .before .before .before .before .before in
+    curve-asks (turn .before .loop .inv) (turn .loop-test .taken)
 
--- src/charging.rt:65:39
 sub-row-figures : tie.Need-sub-row-figures Inv-loop μ-loop
-sub-row-figures c = ?
+sub-row-figures c =
+    let turn = c .before .before .before .before .before .before .before in
+    row-begins (turn .before .loop .inv) (turn .loop-test .taken)
 
--- src/charging.rt:65:39
 part-row-figures-start : tie.Need-part-row-figures-start Inv-loop μ-loop
-part-row-figures-start c = ?
+part-row-figures-start c =
+    let turn = c .before .before .before .before .before .before .before in
+    row-begins (turn .before .loop .inv) (turn .loop-test .taken)
 
--- src/charging.rt:65:39
 part-row-figures-end : tie.Need-part-row-figures-end Inv-loop μ-loop
-part-row-figures-end c = ?
+part-row-figures-end c = le-refl _
 
--- src/charging.rt:65:53
 sub-row-figures-2 : tie.Need-sub-row-figures-2 Inv-loop μ-loop
-sub-row-figures-2 c = ?
+sub-row-figures-2 c = omega (arith, c .before .curve-at .ensures .1)
 
--- src/charging.rt:65:53
 part-row-figures-start-2 : tie.Need-part-row-figures-start-2 Inv-loop μ-loop
-part-row-figures-start-2 c = ?
+part-row-figures-start-2 c = omega (arith, c .before .curve-at .ensures .1)
 
--- src/charging.rt:65:53
 part-row-figures-end-2 : tie.Need-part-row-figures-end-2 Inv-loop μ-loop
-part-row-figures-end-2 c = ?
+part-row-figures-end-2 c = le-refl _
 
--- src/charging.rt:65:17
 row-figures-requires : tie.Need-row-figures-requires Inv-loop μ-loop
-row-figures-requires c κs = ?
+row-figures-requires c κs =
+    let turn = c .before .before .before .before .before .before .before .before .before in
+    figures-asks (turn .before .loop .inv) (turn .loop-test .taken) _ (c .before .before .curve-at .ensures .0) (c .before .before .curve-at .ensures .1) (c .before .before .before .before .before .before .before .before .before .before .before .before .before .before .before .before .before .before .pre .1 .1 .0)
 
--- src/charging.rt:66:51
 sub-row-charge : tie.Need-sub-row-charge Inv-loop μ-loop
-sub-row-charge c = ?
+sub-row-charge c =
+    let turn = c .before .before .before .before .before .before .before .before .before .before in
+    row-begins (turn .before .loop .inv) (turn .loop-test .taken)
 
--- src/charging.rt:66:51
 part-row-charge-start : tie.Need-part-row-charge-start Inv-loop μ-loop
-part-row-charge-start c = ?
+part-row-charge-start c =
+    let turn = c .before .before .before .before .before .before .before .before .before .before in
+    row-begins (turn .before .loop .inv) (turn .loop-test .taken)
 
--- src/charging.rt:66:51
 part-row-charge-end : tie.Need-part-row-charge-end Inv-loop μ-loop
-part-row-charge-end c = ?
+part-row-charge-end c = le-refl _
 
--- src/charging.rt:66:17
 row-charge-requires : tie.Need-row-charge-requires Inv-loop μ-loop
-row-charge-requires c κs = ?
+row-charge-requires c κs =
+    let turn = c .before .before .before .before .before .before .before .before .before .before .before in
+    charge-asks (turn .before .loop .inv) (turn .loop-test .taken) _ (c .before .before .before .before .curve-at .ensures .0) (c .before .row-figures .ensures) (c .before .before .before .before .before .before .before .before .before .before .account-at .ensures)
 
--- src/charging.rt:67:27
 mul-put-row : tie.Need-mul-put-row Inv-loop μ-loop
-mul-put-row c = ?
+mul-put-row c =
+    let turn = c .before .before .before .before .before .before .before .before .before .before .before .before .before in
+    omega (arith, row-few (turn .before .loop .inv) (turn .loop-test .taken))
 
--- src/charging.rt:67:13
 put-row-requires : tie.Need-put-row-requires Inv-loop μ-loop
-put-row-requires c κs = ?
+put-row-requires c κs =
+    let turn = c .before .before .before .before .before .before .before .before .before .before .before .before .before in
+    words-lie (turn .before .loop .inv) (turn .loop-test .taken)
 
--- src/charging.rt:68:13
 add-i : tie.Need-add-i Inv-loop μ-loop
-add-i c = ?
+add-i c =
+    let turn = c .before .before .before .before .before .before .before .before .before .before .before .before .before .before .before .before in
+    omega (arith, row-few (turn .before .loop .inv) (turn .loop-test .taken))
 
--- src/charging.rt:70:9
 add-j : tie.Need-add-j Inv-loop μ-loop
-add-j c = ?
+add-j c =
+    let turn = c .before .before .before .before .before in
+    omega (arith, account-few (turn .before .loop .inv) (turn .loop-test .taken))
 
--- src/charging.rt:60:5
 loop-less : tie.Need-loop-less Inv-loop μ-loop
-loop-less c = ?
+loop-less c =
+    let turn = c .before .before .before .before .before in
+    omega (arith, account-left (turn .before .loop .inv) (turn .loop-test .taken))
 
--- src/charging.rt:60:5
 loop-again : tie.Need-loop-again Inv-loop μ-loop
-loop-again c = ?
+loop-again c =
+    let turn = c .before .before .before .before .before in
+    let inv = turn .before .loop .inv in
+    let on = turn .loop-test .taken in
+    let read = c .before .before .before .before .account-at .ensures in
+    let id = c .before .before .word5 .ensures .0 in
+    ⊎-elim
+    (λ w. walk-meets inv on _ (w .2 .ensures .0) (w .5 .ensures) read id (w .0 .taken) (w .7 .ensures) (w .12 ∙ w .9 .ensures) (w .13))
+    (λ w. walk-passes inv on (read .0) id (w .0 .left) (w .1) (w .2))
+    (c .if1 .came)
 
--- src/charging.rt:46:1
 same-length : tie.Need-same-length Inv-loop μ-loop
-same-length c = ?
+same-length c = c .before .loop .inv .long ∙ sym (c .before .before .before .before .before .before .before .before .before .pre .1 .1 .1 .1)
 
--- src/charging.rt:46:1
 returns : tie.Need-returns Inv-loop μ-loop
-returns c = ?
+unfolding ratioOf
+returns c =
+    let start = c .before .before .before .before .before .before .before .before .before in
+    let sides : ℕ → ℕ → Ratio = λ upper lower. record { numerator = upper; denominator = lower } in
+    let ratio = ap₂ sides (start .pre .1 .0) (start .pre .1 .1 .1 .0) in
+    walk-ends (c .before .loop .inv) (c .loop-test .left) ratio
 
 pub charge-rows-spec : {M : Type 1} → statement M
 charge-rows-spec =

@@ -1,22 +1,25 @@
+-- `ledger::charging::row_charge` meets its contract. A charge reads of the raised account only its largest commitment and what is charged.
+use Prim.Native.Nat.{_≤_}
+use native.Mathlib.Omega.{arith}
 use borrow.Author.Needs.{needs}
+use Rattle.assessment.specs.Assessment.{raised}
+use Rattle.ledger.proofs.ChargingLaws.{charge-raised}
 use Rattle.ledger.proofs.charging.row_charge.Statement.{statement}
 use Rattle.ledger.proofs.charging.row_charge.Tie as tie
-use Rattle.ledger.proofs.charging.row_charge.Reads as reads
-use Rattle.ledger.proofs.charging.row_charge.Lts as lts
-use Rattle.assessment.proofs.rules.charge.Reads as charge-reads
-use Rattle.assessment.proofs.rules.raised.Reads as raised-reads
 
--- src/charging.rt:42:24
 raised-requires : tie.Need-raised-requires
 raised-requires c κs = search needs
 
--- src/charging.rt:42:5
 charge-requires : tie.Need-charge-requires
-charge-requires c κs = ?
+unfolding raised
+charge-requires c κs =
+    let start = c .before .before in
+    let p = start .pre in
+    let most : c .raised .result .0 ≤ 4000000 = omega (arith, c .raised .ensures, p) in
+    (p .0, (p .1 .0, (most, p .1 .1 .1 .1 .1)))
 
--- src/charging.rt:32:1
 returns : tie.Need-returns
-returns c = ?
+returns c = charge-raised _ _ _ _ _ _ (c .before .raised .ensures) (c .charge .ensures)
 
 pub row-charge-spec : {M : Type 1} → statement M
 row-charge-spec = tie.close (tie.spec raised-requires charge-requires returns)
