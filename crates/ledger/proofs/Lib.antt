@@ -17,4 +17,5 @@ pub mod Claims
 pub mod HeldTests
 pub mod OpeningTests
 pub mod OpeningWrites
+pub mod SettlingTests
 pub mod Impostors
