@@ -136,6 +136,7 @@ pub record Walking (ledger file : List ℕ) (q : Ratio) (cone days count first :
   pub accounts-in : any (accountOutside (termsOf ledger)) (accountsLeft ledger j) ≡ false
 
 module _ {ledger file : List ℕ} {q : Ratio} {cone days count first : ℕ} where
+  -- it begins with the first row and the first account
   pub walk-starts : {rows : List ℕ} → Passed ledger file → cone ≡ termsOf ledger .netCone → days ≡ termsOf ledger .days → count ≡ headerOf file .rowCount → first ≡ headerOf file .rowsOffset
       → length rows ≡ 8 * headerOf file .rowCount → Walking ledger file q cone days count first rows 0 0
   walk-starts {rows} p cone-is days-is count-is first-is long =
@@ -195,12 +196,14 @@ module _ {ledger file : List ℕ} {q : Ratio} {cone days count first : ℕ} wher
     abbrev part : List ℕ
     part = partFrom file start
 
+    -- row i is one of the file's
     on : i < headerOf file .rowCount
     on = omega (arith, w .count-is, taken)
 
     place : start ≡ headerOf file .rowsOffset + rowBytes * i
     place = ap (λ at. at + rowBytes * i) (w .first-is)
 
+    -- it is one of few, and lies within the file
     pub row-few : i < 512
     row-few = omega (arith, on, w .passed .rows-few)
 
@@ -221,6 +224,7 @@ module _ {ledger file : List ℕ} {q : Ratio} {cone days count first : ℕ} wher
             let lost = sym (ap₂ (λ xs rs. unmatched (accountIds xs) (rowIds rs)) none (rows-turn file i on)) ∙ w .meet in
             absurd (true≢false (sym (none-left (row .id) (rowIds rowsOn)) ∙ lost))
 
+    -- that one is one of few, and lies within the ledger
     pub account-few : j < 512
     account-few = omega (arith, account-left, w .passed .few)
 
@@ -228,9 +232,11 @@ module _ {ledger file : List ℕ} {q : Ratio} {cone days count first : ℕ} wher
     unfolding ledgerBytes
     account-lies = omega (arith, account-left, w .passed .room)
 
+    -- there is room for the row's words
     pub words-lie : 8 * i + 8 ≤ length rows
     words-lie = omega (arith, on, w .long)
 
+    -- grounds 13 and 6 do not refuse this row and this account
     row-here : RowIn row
     row-here = row-in row (none-turn rowOutside row rowsOn (rowsLeft file i) (rows-turn file i on) (w .rows-in) .0)
 
@@ -249,6 +255,7 @@ module _ {ledger file : List ℕ} {q : Ratio} {cone days count first : ℕ} wher
     committed-in : rowAt part [] .committed ≤ 4000000
     committed-in = omega (arith, committed-here, row-here .committed)
 
+    -- the row and the account at the front of what is left
     meet-here : unmatched (account .id ∷ accountIds accountsOn) (row .id ∷ rowIds rowsOn) ≡ false
     meet-here = sym (ap₂ (λ xs rs. unmatched (accountIds xs) (rowIds rs)) (accounts-turn ledger j account-left) (rows-turn file i on)) ∙ w .meet
 
@@ -277,6 +284,7 @@ module _ {ledger file : List ℕ} {q : Ratio} {cone days count first : ℕ} wher
           accounts-in = accounts-here .1;
         })
 
+    -- the same by the words that are read
     pub walk-passes : {id word : ℕ} → id ≡ account .id → word ≡ word32 part 0 → word ≢ id → {rows′ : List ℕ} {i′ : ℕ} → rows′ ≡ rows → i′ ≡ i
         → Walking ledger file q cone days count first rows′ i′ (j + 1)
     walk-passes id-is word-is differ rows-are i-is =
@@ -287,6 +295,7 @@ module _ {ledger file : List ℕ} {q : Ratio} {cone days count first : ℕ} wher
     curve-asks = (w .passed .header, (row-holds, curve-within file i start place (fails-turn file i on (w .points-in) .0) (w .passed .points-lie)))
 
     module _ (curve : ℕ) (same : rowAt part (drop curve file) ≡ rowOf file part) where
+      -- the row in two parts of the file is that of the file
       row-same : rowAt part (partFrom file curve) ≡ row
       row-same = ap (rowAt part) (part-to-end file curve) ∙ same ∙ ap (rowOf file) (part-to-end file start ∙ ap (λ k. drop k file) place)
 
@@ -333,6 +342,7 @@ module _ {ledger file : List ℕ} {q : Ratio} {cone days count first : ℕ} wher
               accounts-in = accounts-here .1;
             }
 
+        -- the same by the words that are read
         pub walk-meets : {word cents : ℕ} → word ≡ word32 part 0 → word ≡ id
             → cents ≡ charge (record { netCone = cone; days = days }) (raised (rowAt part []) (record { id = id; largest = largest; charged = charged; credited = credited })) s
             → {rows′ : List ℕ} {i′ : ℕ} → rows′ ≡ sets rows (8 * i) (e ∷ a ∷ o ∷ k ∷ s ∷ b ∷ cents ∷ 0 ∷ []) → i′ ≡ i + 1

@@ -2,7 +2,7 @@
 use Prim.Native.Nat.{_≤_}
 use native.Mathlib.Omega.{arith}
 use borrow.Author.Needs.{needs}
-use Rattle.assessment.specs.Assessment.{raised}
+use Rattle.assessment.specs.Assessment.{Account, raised}
 use Rattle.ledger.proofs.ChargingLaws.{charge-raised}
 use Rattle.ledger.proofs.charging.row_charge.Statement.{statement}
 use Rattle.ledger.proofs.charging.row_charge.Tie as tie
@@ -19,7 +19,11 @@ charge-requires c κs =
     (p .0, (p .1 .0, (most, p .1 .1 .1 .1 .1)))
 
 returns : tie.Need-returns
-returns c = charge-raised _ _ _ _ _ _ (c .before .raised .ensures) (c .charge .ensures)
+returns c =
+    let start = c .before .before .before in
+    let held = start .args .a in
+    let a : Account = record { id = held .id; largest = held .largest .0; charged = held .charged .0; credited = held .credited .0 } in
+    charge-raised _ _ a _ (start .args .short .0) _ (c .before .raised .ensures) (c .charge .ensures)
 
 pub row-charge-spec : {M : Type 1} → statement M
 row-charge-spec = tie.close (tie.spec raised-requires charge-requires returns)
