@@ -3,9 +3,7 @@ use Prim.Native.Nat.{ℕ}
 use Rattle.assessment.proofs.Computing.{computing as assessment-computing}
 use Rattle.ledger.specs.Ledger.{ledgerBytes, accountAt, accountCount, ledgerOf, accountWords, ledgerWords, idsIn, notLaidOut, accountOutside, doesNotClose, notALedger}
 use Rattle.ledger.specs.Opening.{ledgerTooShort, openingGrounds, emptyAccount, openedLedger, opening}
-use Rattle.ledger.specs.Settling.{rowWords, resultWords, assessedFile, otherTerms, tooEarly, rowIdsUnknown, resultTooShort, poolTooLarge, settlingGrounds, posted, postedAll, settledLedger, settling}
-use Rattle.ledger.specs.Year.{givenFrom, givenBy, newYear, afterCall, afterCalls, sumOfPlant, largestOfPlant, accountByRows, rowsWithBonus}
 
 unfoldable pub computing : ℕ
-unfolding assessment-computing ledgerBytes accountAt accountCount ledgerOf accountWords ledgerWords idsIn notLaidOut accountOutside doesNotClose notALedger ledgerTooShort openingGrounds emptyAccount openedLedger opening rowWords resultWords assessedFile otherTerms tooEarly rowIdsUnknown resultTooShort poolTooLarge settlingGrounds posted postedAll settledLedger settling givenFrom givenBy newYear afterCall afterCalls sumOfPlant largestOfPlant accountByRows rowsWithBonus
+unfolding assessment-computing ledgerBytes accountAt accountCount ledgerOf accountWords ledgerWords idsIn notLaidOut accountOutside doesNotClose notALedger ledgerTooShort openingGrounds emptyAccount openedLedger opening
 computing = 0

@@ -11,7 +11,7 @@ use Rattle.words.specs.Grounds.{answered}
 use Rattle.reading.specs.Block.{blockOf, notABlock, termsOutside, idsMisplaced, idsOutOfOrder}
 use Rattle.ledger.specs.Ledger.{ledgerWords}
 use Rattle.ledger.specs.Opening.{OpeningAnswer, ledgerTooShort, openingGrounds, openedLedger, opening}
-use Rattle.ledger.specs.Listing.{buffer, blockWith, listingBlock}
+use Rattle.ledger.specs.Figures.{buffer, blockWith, listingBlock}
 use Rattle.ledger.proofs.Computing.{computing}
 
 -- a program is told from opening by a call if what it gives there is not what the definition gives

@@ -10,7 +10,7 @@ use Rattle.words.specs.Grounds.{answered}
 use Rattle.reading.specs.Block.{blockOf, notABlock, termsOutside, idsMisplaced, idsOutOfOrder}
 use Rattle.ledger.specs.Ledger.{ledgerBytes, ledgerWords}
 use Rattle.ledger.specs.Opening.{ledgerTooShort, openingGrounds, openedLedger, opening}
-use Rattle.ledger.proofs.Calls.{opening-accepts, opening-refuses}
+use Rattle.ledger.proofs.OpeningAnswers.{opening-accepts, opening-refuses}
 
 module _ (b l : List ℕ) where
   pub opening-1 : notABlock b ≡ true → answered (openingGrounds b l) ≡ 1

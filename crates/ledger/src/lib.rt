@@ -1,10 +1,5 @@
-// The ledger of a delivery year: opening it, and settling interval files into it.
+// The ledger of a delivery year: its layout, whether a buffer holds one, and opening it.
 
-pub mod charging;
-pub mod grounds;
 pub mod held;
 pub mod layout;
 pub mod opening;
-pub mod posting;
-pub mod scratch;
-pub mod settling;

@@ -88,8 +88,7 @@ fn write_opened(block: &[u8], ledger: &mut [u8])
 }
 
 // Opens a ledger: answers 0, or the first ground of 1 to 5 that applies and leaves the ledger as it was.
-#[no_mangle]
-pub extern "C" fn npa_open(block: &[u8], ledger: &mut [u8]) -> u32
+pub fn open(block: &[u8], ledger: &mut [u8]) -> u32
     ensures answer { λ r. ⌜ r ≡ openingOf (now (block .entry)) (now (ledger .entry)) .ground ⌝ }
     ensures buffer { λ r. ⌜ now (ledger .exit) ≡ openingOf (now (block .entry)) (now (ledger .entry)) .ledger ⌝ }
 {

@@ -4,7 +4,8 @@ use mathlib.Core.Path.{_≡_}
 use mathlib.Core.List.{List, [], _∷_, _++_}
 use lib.ListN.{length, take, drop, replicate}
 use Rattle.words.specs.Words.{bytesOf, bytesOfWords}
-use Rattle.ledger.specs.Listing.{listingBlock, listingFile}
+use Rattle.ledger.specs.Figures.{listingBlock}
+use Rattle.settling.specs.Listing.{listingFile}
 use Rattle.listing.specs.Lines.{text, decimal}
 use Rattle.listing.specs.Npalist.{npalist}
 

@@ -9,8 +9,8 @@ use Rattle.reading.specs.Block.{mostBlockBytes, mostIds}
 use Rattle.reading.specs.Interval.{mostFileBytes, mostRows, Row, headerOf, rowsOf}
 use Rattle.ledger.specs.Ledger.{ledgerBytes}
 use Rattle.ledger.specs.Opening.{OpeningAnswer, opening}
-use Rattle.ledger.specs.Settling.{resultHeaderBytes, resultRowBytes, SettlingAnswer, settling}
-use Rattle.ledger.specs.Claims.{wordsIn}
+use Rattle.settling.specs.Settling.{resultHeaderBytes, resultRowBytes, SettlingAnswer, settling}
+use Rattle.year.specs.Claims.{wordsIn}
 use Rattle.listing.specs.Lines.{text, line, heading, refusedLine, cutLine}
 
 -- what comes next in a stream where a length is due

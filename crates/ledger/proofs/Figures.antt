@@ -1,0 +1,8 @@
+-- The worked figures of opening and of ground 6, computed.
+use mathlib.Core.Path.{refl}
+use Rattle.ledger.specs.Figures.{blockWith, listingBlock, openedListing, opens, openingFigures, openingOrder, ledgerWith, refusedOn6, ledgerFigures, LedgerFigures}
+use Rattle.ledger.proofs.Computing.{computing}
+
+pub ledger-figures : LedgerFigures
+unfolding blockWith listingBlock openedListing opens openingFigures openingOrder ledgerWith refusedOn6 ledgerFigures computing
+ledger-figures = record { opened = refl; opening-figures = refl; opening-order = refl; ledger-figures = refl }

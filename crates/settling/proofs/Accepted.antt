@@ -1,0 +1,76 @@
+-- What is known of a ledger, a file and a result buffer where no ground of settling applies.
+use Prim.Native.Nat.{ℕ, _+_, _*_, _≤_}
+use mathlib.Core.Path.{_≡_, refl}
+use mathlib.Core.List.{List, map, List·Memᴰ}
+use mathlib.Core.Bool.{true, false, not}
+use native.Mathlib.Omega.{arith}
+use lib.ListN.{length}
+use lib.Dec.{eqb}
+use Rattle.words.specs.Lists.{any, rises}
+use Rattle.words.specs.Grounds.{answered}
+use Rattle.words.proofs.Tests.{facts}
+use Rattle.words.proofs.Lists.{none-passes}
+use Rattle.words.proofs.Grounds.{none-applies}
+use Rattle.reading.specs.Interval.{mostRows, Row, headerOf, rowsOf, headerOutside, tablesMisplaced, rowOutside}
+use Rattle.reading.proofs.Bounds.{HeaderIn, header-in, rows-few, length-rows, RowIn, row-in}
+use Rattle.assessment.specs.Assessment.{pool}
+use Rattle.ledger.proofs.Sound.{ground-zero, LedgerIn, ledger-in}
+use Rattle.ledger.specs.Ledger.{mostCents, Ledger, ledgerOf, idsIn, notALedger}
+use Rattle.settling.specs.Settling.{resultHeaderBytes, resultRowBytes, assessedFile, otherTerms, rowIdsUnknown, resultTooShort, poolTooLarge, settlingGrounds, SettlingAnswer, settling}
+
+-- a ledger, a file and a result buffer that settling accepts
+pub record Accepted (ledger file result : List ℕ) : Type 0 where
+  pub ledger-holds : notALedger ledger ≡ false
+  pub ledger-is : LedgerIn (ledgerOf ledger)
+  pub header : HeaderIn (headerOf file)
+  pub days : headerOf file .terms .days ≡ ledgerOf ledger .terms .days
+  pub rows-few : length (rowsOf file) ≤ mostRows
+  pub ids-rise : rises (map (λ r. r .id) (rowsOf file)) ≡ true
+  pub ids-known : (r : Row) → List·Memᴰ r (rowsOf file) → any (λ id. eqb id (r .id)) (idsIn (ledgerOf ledger)) ≡ true
+  pub rows : (r : Row) → List·Memᴰ r (rowsOf file) → RowIn r
+  pub room : resultHeaderBytes + resultRowBytes * length (rowsOf file) ≤ length result
+  pub pool : pool (assessedFile ledger file) ≤ mostCents
+
+same-days : (ledger file : List ℕ) → otherTerms ledger file ≡ false → headerOf file .terms .days ≡ ledgerOf ledger .terms .days
+unfolding otherTerms
+same-days ledger file e = search facts
+
+rows-rise : (l : Ledger) (rs : List Row) → rowIdsUnknown l rs ≡ false → rises (map (λ r. r .id) rs) ≡ true
+unfolding rowIdsUnknown
+rows-rise l rs e = search facts
+
+rows-known : (l : Ledger) (rs : List Row) → rowIdsUnknown l rs ≡ false → (r : Row) → List·Memᴰ r rs → any (λ id. eqb id (r .id)) (idsIn l) ≡ true
+unfolding rowIdsUnknown
+rows-known l rs e r m =
+    let all : any (λ r. not (any (λ id. eqb id (r .id)) (idsIn l))) rs ≡ false = search facts in
+    let one = none-passes (λ r. not (any (λ id. eqb id (r .id)) (idsIn l))) m all in
+    search facts
+
+pub settling-none : (ledger file result : List ℕ) → settling ledger file result .ground ≡ 0 → answered (settlingGrounds ledger file result) ≡ 0
+unfolding settling
+settling-none ledger file result e = ground-zero {A = SettlingAnswer} (answered (settlingGrounds ledger file result)) (λ a. a .ground) _ _ refl e
+
+pub accepted : (ledger file result : List ℕ) → settling ledger file result .ground ≡ 0 → Accepted ledger file result
+unfolding settlingGrounds any resultTooShort poolTooLarge
+accepted ledger file result e =
+    let none = none-applies (settlingGrounds ledger file result) refl (settling-none ledger file result e) in
+    let g6 : notALedger ledger ≡ false = search facts depth 14 in
+    let g8 : otherTerms ledger file ≡ false = search facts depth 14 in
+    let g9 : headerOutside (headerOf file) ≡ false = search facts depth 14 in
+    let g11 : tablesMisplaced file ≡ false = search facts depth 14 in
+    let g12 : rowIdsUnknown (ledgerOf ledger) (rowsOf file) ≡ false = search facts depth 14 in
+    let g13 : any rowOutside (rowsOf file) ≡ false = search facts depth 14 in
+    let g15 : resultHeaderBytes + resultRowBytes * headerOf file .rowCount ≤ length result = search facts depth 14 in
+    let n = length-rows file in
+    record {
+      ledger-holds = g6;
+      ledger-is = ledger-in ledger g6;
+      header = header-in (headerOf file) g9;
+      days = same-days ledger file g8;
+      rows-few = omega (arith, n, rows-few file g11);
+      ids-rise = rows-rise (ledgerOf ledger) (rowsOf file) g12;
+      ids-known = rows-known (ledgerOf ledger) (rowsOf file) g12;
+      rows = λ r m. row-in r (none-passes rowOutside m g13);
+      room = omega (arith, n, g15);
+      pool = search facts depth 14;
+    }

@@ -1,0 +1,12 @@
+pub mod Computing
+pub mod Listing
+pub mod Accepted
+pub mod SettlingAnswers
+pub mod SettlingTests
+pub mod SettlingEnds
+pub mod Beside
+pub mod Meeting
+pub mod ScratchLaws
+pub mod ChargingLaws
+pub mod PostingLaws
+pub mod SettledLaws

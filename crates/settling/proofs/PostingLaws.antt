@@ -1,0 +1,326 @@
+-- What is left to post while rows and accounts are walked side by side, and the words of the result.
+use Prim.Native.Nat.{ℕ, zero, suc, _+_, _-_, _*_, _≤_, _<_, _^_}
+use mathlib.Core.Path.{_≡_, refl, sym, ap, ap₂, _∙_}
+use mathlib.Core.List.{List, [], _∷_, _++_, map, append-nil}
+use mathlib.Core.Bool.{Bool, true, false, not, _||_, _&&_}
+use native.Mathlib.Omega.{arith}
+use borrow.Author.Tests.{lt-ltb, le-ltb, ltb-true, ltb-false}
+use borrow.Rule.Slice.PartAt.{part-to-end}
+use borrow.Rule.Slice.PartMut.{putMid}
+use lib.ListN.{length, take, drop, getD, length-map, length-drop, drop-of-length-le, List·getD-append}
+use lib.Seq.{drop-drop, drop-at, getD-drop, length-take-le}
+use lib.Dec.{ltb, eqb}
+use Rattle.words.specs.Lists.{any, risesAbove, rises}
+use Rattle.words.specs.Words.{word32, entries, bytesOfWords, written, writtenAt}
+use Rattle.words.proofs.Tests.{first-holds, second-holds, not-first, not-second}
+use Rattle.words.proofs.Words.{length-bytesOfWords}
+use Rattle.words.proofs.Access.{write-more, write-none, written-at-zero, length-writtenAt}
+use Rattle.reading.specs.Interval.{rowBytes, Row, headerOf, rowAt, rowOf, rowsOf}
+use Rattle.reading.proofs.Bounds.{terms-in, ids-rise, length-rows}
+use Rattle.reading.proofs.Walk.{rowPart, rowsLeft, rows-start, rows-turn, rows-end}
+use Rattle.assessment.specs.Assessment.{Account, raised, ChargedRow, chargedRow, Assessed, assessed, ratioOf, credit}
+use Rattle.assessment.proofs.Limits.{mostLimit, limit-le}
+use Rattle.assessment.proofs.SumLaws.{partFrom}
+use Rattle.ledger.specs.Ledger.{ledgerHeaderBytes, accountBytes, mostCents, mostCredited, accountAt, accountCount, ledgerOf, accountWords, idsIn, accountOutside}
+use Rattle.settling.specs.Settling.{rowWords, assessedFile, rowIdsUnknown, posted, postedAll}
+use Rattle.settling.specs.Scratch.{Passed}
+use Rattle.ledger.proofs.Accounts.{accountPart, accountsLeft, accounts-start, accounts-turn, accounts-end}
+use Rattle.settling.proofs.Beside.{unmatched, unknown, walked}
+use Rattle.settling.proofs.Meeting.{accountIds, rowIds, chargedIds, postedBeside, posted-met, posted-passed, posted-rest, posted-own}
+use Rattle.ledger.proofs.Sound.{account-in}
+use Rattle.settling.proofs.SettledLaws.{length-row-words}
+
+-- whether row i of a file is there and has an id
+module _ (f : List ℕ) (i n first id : ℕ) (count : n ≡ headerOf f .rowCount) where
+  pub no-row : n ≤ i → false ≡ (ltb i (headerOf f .rowCount) && eqb (rowAt (rowPart f i) [] .id) id)
+  no-row h = rw (le-ltb i (headerOf f .rowCount) (omega arith))
+
+  pub row-there : i < n → first ≡ headerOf f .rowsOffset → (w : ℕ) → w ≡ word32 (partFrom f (first + 56 * i)) 0
+      → eqb w id ≡ (ltb i (headerOf f .rowCount) && eqb (rowAt (rowPart f i) [] .id) id)
+  unfolding rowAt
+  row-there h place w e =
+      let same : partFrom f (first + 56 * i) ≡ rowPart f i = part-to-end f (first + 56 * i) ∙ ap (λ at. drop (at + 56 * i) f) place in
+      rw (lt-ltb i (headerOf f .rowCount) (omega arith)) (ap (λ w. eqb w id) (e ∙ ap (λ b. word32 b 0) same))
+
+-- what that says where it holds
+pub meets-row : (f : List ℕ) (i id : ℕ) (r : Bool) → r ≡ (ltb i (headerOf f .rowCount) && eqb (rowAt (rowPart f i) [] .id) id) → r ≡ true
+    → (i < headerOf f .rowCount) × (eqb (rowAt (rowPart f i) [] .id) id ≡ true)
+meets-row f i id r e taken =
+    let there = ltb i (headerOf f .rowCount) in
+    let own = eqb (rowAt (rowPart f i) [] .id) id in
+    let both = sym e ∙ taken in
+    (ltb-true i (headerOf f .rowCount) (first-holds there own both), second-holds there own both)
+
+-- eight words, and rows behind them
+pub result-written : (b x y rows : List ℕ) (v₁ v₂ v₃ v₄ v₅ v₆ v₇ v₈ : ℕ) → 64 ≤ length b → x ≡ written (v₁ ∷ v₂ ∷ v₃ ∷ v₄ ∷ v₅ ∷ v₆ ∷ v₇ ∷ v₈ ∷ []) b
+    → y ≡ written rows (take (length x - 64) (drop 64 x))
+    → putMid 64 (length x - 64) x y ≡ written (v₁ ∷ v₂ ∷ v₃ ∷ v₄ ∷ v₅ ∷ v₆ ∷ v₇ ∷ v₈ ∷ rows) b
+result-written b x y rows v₁ v₂ v₃ v₄ v₅ v₆ v₇ v₈ room header tail =
+    let behind : take 64 x ++ written rows (drop 64 x) ≡ writtenAt 64 rows x = unfold writtenAt in refl in
+    let eight : List ℕ = v₁ ∷ v₂ ∷ v₃ ∷ v₄ ∷ v₅ ∷ v₆ ∷ v₇ ∷ v₈ ∷ [] in
+    let n = length-drop 64 x in
+    let end : length (drop 64 x) ≤ length x - 64 = omega (arith, n) in
+    let none : drop (length x - 64) (drop 64 x) ≡ [] = drop-of-length-le (drop 64 x) end in
+    let rest : y ++ drop (length x - 64) (drop 64 x) ≡ written rows (drop 64 x)
+    = ap (λ l. y ++ l) none ∙ append-nil y ∙ tail ∙ ap (written rows) (part-to-end x 64) in
+    ap (λ l. take 64 x ++ l) rest ∙ behind ∙ ap (writtenAt 64 rows) (header ∙ sym (written-at-zero eight b)) ∙ write-more 0 eight rows b room ∙ written-at-zero (eight ++ rows) b
+
+-- raising reads an account's largest commitment alone
+pub raised-written : (b x part : List ℕ) (at id largest charged credited cents share kw : ℕ)
+    → kw ≡ raised (rowAt part []) (record { id = 0; largest = largest; charged = 0; credited = 0 }) .largest
+    → x ≡ writtenAt at (id ∷ kw ∷ (charged + cents) ∷ (credited + share) ∷ []) b
+    → let a : Account = record { id = id; largest = largest; charged = charged; credited = credited } in
+    x ≡ writtenAt at (id ∷ raised (rowAt part []) a .largest ∷ (charged + cents) ∷ (credited + share) ∷ []) b
+unfolding raised
+raised-written b x part at id largest charged credited cents share kw raise put =
+    put ∙ ap (λ kw. writtenAt at (id ∷ kw ∷ (charged + cents) ∷ (credited + share) ∷ []) b) raise
+
+-- what lies behind words that have just been written is as it was
+beyond-words : (at : ℕ) (ws b : List ℕ) → at + 8 * length ws ≤ length b → drop (at + 8 * length ws) (writtenAt at ws b) ≡ drop (at + 8 * length ws) b
+unfolding writtenAt written
+beyond-words at ws b h =
+    let front = take at b in
+    let new = bytesOfWords 8 ws in
+    let rest = drop (8 * length ws) (drop at b) in
+    let n : length front ≡ at = length-take-le at b (omega arith) in
+    let m = length-bytesOfWords 8 ws in
+    sym (drop-drop (8 * length ws) at (front ++ (new ++ rest)))
+    ∙ ap (drop (8 * length ws)) (drop-at front (new ++ rest) at n)
+    ∙ drop-at new rest (8 * length ws) m
+    ∙ drop-drop (8 * length ws) at b
+
+-- where no entry of a table passes a test, entry i does not
+entry-fails : {A : Type 0} (p : A → Bool) (size : ℕ) (read : List ℕ → A) (n : ℕ) (b : List ℕ) (i : ℕ) → i < n → any p (entries size read n b) ≡ false → p (read (drop (size * i) b)) ≡ false
+unfolding any entries
+entry-fails p size read zero b i h e = absurd (omega arith)
+entry-fails p size read (suc n) b zero h e = let front : size * 0 ≡ 0 = omega arith in rw front (not-first (p (read b)) (any p (entries size read n (drop size b))) e)
+entry-fails p size read (suc n) b (suc i) h e =
+    let next : size + size * i ≡ size * suc i = omega arith in
+    ap (λ d. p (read d)) (sym (drop-drop (size * i) size b ∙ ap (λ k. drop k b) next))
+    ∙ entry-fails p size read n (drop size b) i (omega arith) (not-second (p (read b)) (any p (entries size read n (drop size b))) e)
+
+-- word k of row i
+row-word : {A : Type 0} (v : Assessed) (charged : A → ChargedRow) (size : ℕ) (read : List ℕ → A) (k : ℕ) → k < 8 → (n : ℕ) (b : List ℕ) (i : ℕ) → i < n
+    → getD (rowWords v (map charged (entries size read n b))) (8 * i + k) 0 ≡ getD (rowWords v (charged (read (drop (size * i) b)) ∷ [])) k 0
+unfolding rowWords entries
+row-word v charged size read k low zero b i h = absurd (omega arith)
+row-word v charged size read k low (suc n) b zero h =
+    let front : size * 0 ≡ 0 = omega arith in
+    let here : 8 * 0 + k ≡ k = omega arith in
+    ap (λ at. getD (rowWords v (map charged (entries size read (suc n) b))) at 0) here
+    ∙ List·getD-append (rowWords v (charged (read b) ∷ [])) (rowWords v (map charged (entries size read n (drop size b)))) 0 k low
+    ∙ ap (λ at. getD (rowWords v (charged (read (drop at b)) ∷ [])) k 0) (sym front)
+row-word v charged size read k low (suc n) b (suc i) h =
+    let next : size + size * i ≡ size * suc i = omega arith in
+    let here : 8 * suc i + k ≡ 8 + (8 * i + k) = omega arith in
+    let all = rowWords v (map charged (entries size read (suc n) b)) in
+    ap (λ at. getD all at 0) here
+    ∙ sym (getD-drop 8 all (8 * i + k) 0)
+    ∙ row-word v charged size read k low n (drop size b) i (omega arith)
+    ∙ ap (λ d. getD (rowWords v (charged (read d) ∷ [])) k 0) (drop-drop (size * i) size b ∙ ap (λ k. drop k b) next)
+
+-- a test of what members are mapped to
+any-map : {A B : Type 0} (p : B → Bool) (g : A → B) (xs : List A) → any p (map g xs) ≡ any (λ x. p (g x)) xs
+unfolding any
+any-map p g [] = refl
+any-map p g (x ∷ xs) = ap (λ t. p (g x) || t) (any-map p g xs)
+
+-- ids of accounts that ground 6 does not refuse rise
+pub accounts-rise : (ledger file : List ℕ) → Passed ledger file → risesAbove 0 (accountIds (ledgerOf ledger .accounts)) ≡ true
+unfolding idsIn
+accounts-rise ledger file p = ids-rise (idsIn (ledgerOf ledger)) (p .ids)
+
+-- and each row meets one of them
+pub all-meet : (ledger file : List ℕ) → Passed ledger file → unmatched (accountIds (ledgerOf ledger .accounts)) (rowIds (rowsOf file)) ≡ false
+unfolding rowIdsUnknown idsIn
+all-meet ledger file p =
+    sym (walked 0 (accountIds (ledgerOf ledger .accounts)) (rowIds (rowsOf file)) (accounts-rise ledger file p))
+    ∙ ap (λ t. not (rises (rowIds (rowsOf file))) || t) (any-map (unknown (accountIds (ledgerOf ledger .accounts))) (λ r. r .id) (rowsOf file))
+    ∙ p .known
+
+-- four words that are an account's
+pub account-is : (id largest charged credited : ℕ) (a : Account) → (id ≡ a .id) × (largest ≡ a .largest) × (charged ≡ a .charged) × (credited ≡ a .credited)
+    → _≡_ {A = Account} (record { id = id; largest = largest; charged = charged; credited = credited }) a
+account-is id largest charged credited a e = λ k. record { id = e .0 k; largest = e .1 k; charged = e .2 k; credited = e .3 k }
+
+-- an account after its own row
+posted-is : (v : Assessed) (c : ChargedRow) (a : Account) (kw cents share : ℕ) → eqb (c .row .id) (a .id) ≡ true → kw ≡ raised (c .row) a .largest → cents ≡ c .charge
+    → share ≡ credit v c → posted v c a ≡ record { id = a .id; largest = kw; charged = a .charged + cents; credited = a .credited + share }
+unfolding posted raised
+posted-is v c a kw cents share own raise charge credits =
+    rw own (λ k. record { id = a .id; largest = sym raise k; charged = a .charged + sym charge k; credited = a .credited + sym credits k })
+
+-- a ledger b and a file f, before any row is posted
+module _ (b f : List ℕ) where
+  -- the interval that the file makes
+  abbrev pub v : Assessed
+  v = assessedFile b f
+
+  -- a row, charged
+  abbrev pub charged : Row → ChargedRow
+  charged = chargedRow (ledgerOf b .terms) (ledgerOf b .accounts) (ratioOf (headerOf f) (rowsOf f))
+
+  -- the charged rows from i on, and charged row i
+  abbrev pub chargedLeft : ℕ → List ChargedRow
+  chargedLeft i = map charged (rowsLeft f i)
+
+  abbrev pub chargedAt : ℕ → ChargedRow
+  chargedAt i = charged (rowOf f (rowPart f i))
+
+  -- what a row has in the interval, and what of it the code reads
+  rows-are : v .rows ≡ map charged (rowsOf f)
+  unfolding assessedFile assessed
+  rows-are = refl
+
+  row-left : (i : ℕ) → i < headerOf f .rowCount → chargedLeft i ≡ chargedAt i ∷ chargedLeft (i + 1)
+  row-left i h = ap (map charged) (rows-turn f i h)
+
+  row-id : (i : ℕ) → chargedAt i .row .id ≡ rowAt (rowPart f i) [] .id
+  unfolding chargedRow rowOf rowAt
+  row-id i = refl
+
+  row-raises : (i : ℕ) (a : Account) → raised (rowAt (rowPart f i) []) a .largest ≡ raised (chargedAt i .row) a .largest
+  unfolding raised chargedRow rowOf rowAt
+  row-raises i a = refl
+
+  -- charging keeps the ids
+  charged-ids : chargedIds (v .rows) ≡ rowIds (rowsOf f)
+  charged-ids = ap chargedIds rows-are ∙ ids (rowsOf f)
+    where
+      ids : (rs : List Row) → chargedIds (map charged rs) ≡ rowIds rs
+      ids [] = refl
+      ids (r ∷ rs) = ap₂ _∷_ (unfold chargedRow in refl) (ids rs)
+
+  -- the rows' words in scratch
+  module _ (rows : List ℕ) (filled : rows ≡ rowWords v (v .rows)) where
+    pub rows-long : length rows ≡ 8 * headerOf f .rowCount
+    rows-long =
+        let n = ap length rows-are ∙ length-map (rowsOf f) charged ∙ length-rows f in
+        omega (arith, ap length filled, length-row-words v (v .rows), n)
+
+    word-at : (i k : ℕ) → k < 8 → i < headerOf f .rowCount → getD rows (8 * i + k) 0 ≡ getD (rowWords v (chargedAt i ∷ [])) k 0
+    unfolding rowsOf
+    word-at i k low h =
+        ap (λ ws. getD ws (8 * i + k) 0) (filled ∙ ap (rowWords v) rows-are)
+        ∙ row-word v charged rowBytes (rowOf f) k low (headerOf f .rowCount) (drop (headerOf f .rowsOffset) f) i h
+        ∙ ap (λ d. getD (rowWords v (charged (rowOf f d) ∷ [])) k 0) (drop-drop (rowBytes * i) (headerOf f .rowsOffset) f)
+
+    pub charge-at : (i : ℕ) → i < headerOf f .rowCount → getD rows (8 * i + 6) 0 ≡ chargedAt i .charge
+    unfolding rowWords
+    charge-at i h = word-at i 6 (omega arith) h
+
+    pub credit-at : (i : ℕ) → i < headerOf f .rowCount → getD rows (8 * i + 7) 0 ≡ credit v (chargedAt i)
+    unfolding rowWords
+    credit-at i h = word-at i 7 (omega arith) h
+
+  -- the ledger once the accounts before j are written and the rows before i are posted: what is left to write makes it the ledger with all posted
+  pub record Left (ledger : List ℕ) (i j : ℕ) : Type 0 where
+    pub long : length ledger ≡ length b
+    pub later : drop (64 + 32 * j) ledger ≡ drop (64 + 32 * j) b
+    pub left : writtenAt (64 + 32 * j) (accountWords (postedBeside v (accountsLeft b j) (chargedLeft i))) ledger
+        ≡ writtenAt 64 (accountWords (postedBeside v (ledgerOf b .accounts) (v .rows))) b
+
+  pub left-start : Left b 0 0
+  left-start = record {
+    long = refl;
+    later = refl;
+    left = ap₂ (λ accounts rows. writtenAt 64 (accountWords (postedBeside v accounts rows)) b) (sym (accounts-start b)) (ap (map charged) (sym (rows-start f)) ∙ sym rows-are);
+  }
+
+  -- what an account of the ledger has at most
+  account-small : Passed b f → (j : ℕ) → j < accountCount b
+      → let a = accountAt (accountPart b j) in (a .charged ≤ mostLimit) × (a .credited ≤ mostCredited)
+  unfolding ledgerOf
+  account-small p j h =
+      let t = ledgerOf b .terms in
+      let none : accountOutside t (accountAt (accountPart b j)) ≡ false
+      = ap (λ d. accountOutside t (accountAt d)) (sym (drop-drop (accountBytes * j) ledgerHeaderBytes b))
+      ∙ entry-fails (accountOutside t) accountBytes accountAt (accountCount b) (drop ledgerHeaderBytes b) j h (p .accounts) in
+      let a = account-in t (accountAt (accountPart b j)) none in
+      let most = limit-le t (accountAt (accountPart b j) .largest) (terms-in t (p .terms)) (a .largest) in
+      (omega (arith, a .charged, most), a .credited)
+
+  -- so a charge and a credit added to it fit
+  pub sums-fit : Passed b f → (ledger : List ℕ) (i j : ℕ) → Left ledger i j → j < accountCount b → (charged credited cents share : ℕ)
+      → charged ≡ accountAt (drop (64 + 32 * j) ledger) .charged → credited ≡ accountAt (drop (64 + 32 * j) ledger) .credited
+      → cents ≤ mostCents → share ≤ mostCents → (charged + cents < 2 ^ 64) × (credited + share < 2 ^ 64)
+  sums-fit p ledger i j s h charged credited cents share is-charged is-credited few little =
+      let most = account-small p j h in
+      let more = is-charged ∙ ap (λ d. accountAt d .charged) (s .later) in
+      let less = is-credited ∙ ap (λ d. accountAt d .credited) (s .later) in
+      (omega (arith, most .0, more, few), omega (arith, most .1, less, little))
+
+  -- one account more has been written
+  module _ (ledger x : List ℕ) (i j k : ℕ) (h : j < accountCount b) (room : 64 + 32 * accountCount b ≤ length b) (s : Left ledger i j) where
+    written-turn : (id largest charge credit : ℕ) → x ≡ writtenAt (64 + 32 * j) (id ∷ largest ∷ charge ∷ credit ∷ []) ledger
+        → accountWords (postedBeside v (accountsLeft b j) (chargedLeft i)) ≡ (id ∷ largest ∷ charge ∷ credit ∷ []) ++ accountWords (postedBeside v (accountsLeft b (j + 1)) (chargedLeft k))
+        → Left x k (j + 1)
+    written-turn id largest charge credit put words =
+        let at = 64 + 32 * j in
+        let four : List ℕ = id ∷ largest ∷ charge ∷ credit ∷ [] in
+        let next : 64 + 32 * (j + 1) ≡ at + 32 = omega arith in
+        let fits : at + 32 ≤ length ledger = omega (arith, s .long) in
+        let rest = accountWords (postedBeside v (accountsLeft b (j + 1)) (chargedLeft k)) in
+        record {
+          long = ap length put ∙ length-writtenAt at four ledger fits ∙ s .long;
+          later = rw (next, put) (beyond-words at four ledger fits ∙ sym (drop-drop 32 at ledger) ∙ ap (drop 32) (s .later) ∙ drop-drop 32 at b);
+          left = rw (next, put) (write-more at four rest ledger fits ∙ ap (λ ws. writtenAt at ws ledger) (sym words) ∙ s .left);
+        }
+
+    module _ (a : Account) (same : a ≡ accountAt (drop (64 + 32 * j) ledger)) where
+      -- the accounts from the next on
+      abbrev next-accounts : List Account
+      next-accounts = accountsLeft b (j + 1)
+
+      -- what this account and those after it become, where it becomes another
+      turn-words : (rows : List ChargedRow) (to : Account) → chargedLeft i ≡ rows
+          → postedBeside v (a ∷ next-accounts) rows ≡ to ∷ postedBeside v next-accounts (chargedLeft k)
+          → accountWords (postedBeside v (accountsLeft b j) (chargedLeft i))
+          ≡ (to .id ∷ to .largest ∷ to .charged ∷ to .credited ∷ []) ++ accountWords (postedBeside v next-accounts (chargedLeft k))
+      unfolding accountWords
+      turn-words rows to is e =
+          let this = accounts-turn b j h ∙ ap (λ a. a ∷ next-accounts) (sym (same ∙ ap accountAt (s .later))) in
+          ap accountWords (ap₂ (postedBeside v) this is ∙ e)
+
+      -- no row meets this account
+      pub turn-without : x ≡ writtenAt (64 + 32 * j) (a .id ∷ a .largest ∷ a .charged ∷ a .credited ∷ []) ledger
+          → (ltb i (headerOf f .rowCount) && eqb (rowAt (rowPart f i) [] .id) (a .id)) ≡ false → k ≡ i → Left x k (j + 1)
+      turn-without put none to-next = by (ltb i (headerOf f .rowCount)) refl none
+        where
+          by : (t : Bool) → ltb i (headerOf f .rowCount) ≡ t → (t && eqb (rowAt (rowPart f i) [] .id) (a .id)) ≡ false → Left x k (j + 1)
+          by true e other =
+              let here = row-left i (ltb-true i (headerOf f .rowCount) e) in
+              let past = posted-passed v a next-accounts (chargedAt i) (chargedLeft (i + 1)) (ap (λ id. eqb id (a .id)) (row-id i) ∙ other) in
+              written-turn (a .id) (a .largest) (a .charged) (a .credited) put
+              (turn-words (chargedAt i ∷ chargedLeft (i + 1)) a here (past ∙ ap (λ rows. a ∷ postedBeside v next-accounts rows) (sym here ∙ ap chargedLeft (sym to-next))))
+          by false e other =
+              let here = ap (map charged) (rows-end f i (ltb-false i (headerOf f .rowCount) e)) in
+              written-turn (a .id) (a .largest) (a .charged) (a .credited) put
+              (turn-words [] a here (posted-rest v a next-accounts ∙ ap (λ rows. a ∷ postedBeside v next-accounts rows) (sym here ∙ ap chargedLeft (sym to-next))))
+
+      -- row i meets it
+      pub turn-with : (part : List ℕ) (cents share : ℕ) → part ≡ rowPart f i → cents ≡ chargedAt i .charge → share ≡ credit v (chargedAt i)
+          → x ≡ writtenAt (64 + 32 * j) (a .id ∷ raised (rowAt part []) a .largest ∷ (a .charged + cents) ∷ (a .credited + share) ∷ []) ledger
+          → i < headerOf f .rowCount → eqb (rowAt (rowPart f i) [] .id) (a .id) ≡ true → k ≡ i + 1 → Left x k (j + 1)
+      turn-with part cents share row charge credits put there met to-next =
+          let own = ap (λ id. eqb id (a .id)) (row-id i) ∙ met in
+          let to : Account = record { id = a .id; largest = raised (rowAt part []) a .largest; charged = a .charged + cents; credited = a .credited + share } in
+          let kw = ap (λ b. raised (rowAt b []) a .largest) row ∙ row-raises i a in
+          let is = posted-is v (chargedAt i) a (to .largest) cents share own kw charge credits in
+          let past = posted-met v a next-accounts (chargedAt i) (chargedLeft (i + 1)) own in
+          written-turn (to .id) (to .largest) (to .charged) (to .credited) put
+          (turn-words (chargedAt i ∷ chargedLeft (i + 1)) to (row-left i there)
+          (past ∙ ap₂ (λ a rows. a ∷ postedBeside v next-accounts rows) is (ap chargedLeft (sym to-next))))
+
+  -- all accounts are written
+  pub left-none : Passed b f → (ledger : List ℕ) (i j : ℕ) → accountCount b ≤ j → Left ledger i j
+      → ledger ≡ writtenAt 64 (accountWords (map (postedAll v (v .rows)) (ledgerOf b .accounts))) b
+  unfolding postedBeside accountWords
+  left-none p ledger i j h s =
+      let at = 64 + 32 * j in
+      let up = accounts-rise b f p in
+      let own = posted-own v 0 (ledgerOf b .accounts) (v .rows) up (ap (λ ids. unmatched (accountIds (ledgerOf b .accounts)) ids) charged-ids ∙ all-meet b f p) in
+      sym (write-none at ledger)
+      ∙ ap (λ accounts. writtenAt at (accountWords (postedBeside v accounts (chargedLeft i))) ledger) (sym (accounts-end b j h))
+      ∙ s .left
+      ∙ ap (λ accounts. writtenAt 64 (accountWords accounts) b) own

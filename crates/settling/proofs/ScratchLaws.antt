@@ -1,0 +1,76 @@
+-- The rows' words in scratch, row by row.
+use Prim.Native.Nat.{ℕ, suc, _+_, _-_, _*_, _≤_, _<_}
+use mathlib.Core.Path.{_≡_, sym, ap, ap₂, _∙_}
+use mathlib.Core.List.{List, [], _∷_, _++_, append-assoc}
+use native.Mathlib.Nat.{sub-zero}
+use native.Mathlib.Omega.{arith}
+use lib.ListN.{length, take, drop, getD, set, take-append-drop}
+use lib.Seq.{drop-drop, getD-drop, take-add, drop-set-lt, take-suc-set}
+use Rattle.assessment.specs.Assessment.{share}
+use Rattle.settling.specs.Scratch.{sumOfWord, withCredits}
+
+-- where n rows have i rows before them, one more is left
+more-left : (n i : ℕ) → i < n → n - i ≡ suc (n - (i + 1))
+more-left n i h = omega arith
+
+module _ (ws : List ℕ) where
+  eight-on : (i : ℕ) → drop 8 (drop (8 * i) ws) ≡ drop (8 * (i + 1)) ws
+  eight-on i =
+      let next : 8 * i + 8 ≡ 8 * (i + 1) = omega arith in
+      drop-drop 8 (8 * i) ws ∙ ap (λ k. drop k ws) next
+
+  -- what is left of the sum of word k, from row i on
+  pub sum-of-start : (k n : ℕ) → 0 + sumOfWord k (n - 0) (drop (8 * 0) ws) ≡ sumOfWord k n ws
+  sum-of-start k n = let front : 8 * 0 ≡ 0 = omega arith in rw (front, sub-zero n) (omega arith)
+
+  pub sum-of-turn : (k n i so all : ℕ) → i < n → so + sumOfWord k (n - i) (drop (8 * i) ws) ≡ all
+      → so + getD ws (8 * i + k) 0 + sumOfWord k (n - (i + 1)) (drop (8 * (i + 1)) ws) ≡ all
+  unfolding sumOfWord
+  sum-of-turn k n i so all h left =
+      let here : sumOfWord k (n - i) (drop (8 * i) ws) ≡ getD ws (8 * i + k) 0 + sumOfWord k (n - (i + 1)) (drop (8 * (i + 1)) ws)
+      = ap (λ m. sumOfWord k m (drop (8 * i) ws)) (more-left n i h) ∙ ap₂ (λ w rest. w + sumOfWord k (n - (i + 1)) rest) (getD-drop (8 * i) ws k 0) (eight-on i) in
+      omega (arith, here, left)
+
+  pub sum-of-end : (k n i so all : ℕ) → n ≤ i → so + sumOfWord k (n - i) (drop (8 * i) ws) ≡ all → so ≡ all
+  unfolding sumOfWord
+  sum-of-end k n i so all h left =
+      let none : n - i ≡ 0 = omega arith in
+      let zero : sumOfWord k (n - i) (drop (8 * i) ws) ≡ 0 = rw none in
+      omega (arith, zero, left)
+
+-- lists that agree from a place on agree at each later place
+pub same-word : (p k : ℕ) (ws vs : List ℕ) → drop p ws ≡ drop p vs → getD ws (p + k) 0 ≡ getD vs (p + k) 0
+same-word p k ws vs e = sym (getD-drop p ws k 0) ∙ ap (λ l. getD l k 0) e ∙ getD-drop p vs k 0
+
+-- and still do from the next row on, where a word of this row has changed
+pub same-later : (i v : ℕ) (ws vs : List ℕ) → drop (8 * i) ws ≡ drop (8 * i) vs → drop (8 * (i + 1)) (set ws (8 * i + 7) v) ≡ drop (8 * (i + 1)) vs
+same-later i v ws vs e = drop-set-lt (8 * (i + 1)) ws (8 * i + 7) v (omega arith) ∙ sym (eight-on ws i) ∙ ap (drop 8) e ∙ eight-on vs i
+
+module _ (cents total n : ℕ) where
+  -- what is left to credit, from row i on
+  abbrev pub creditsLeft : List ℕ → ℕ → List ℕ
+  creditsLeft ws i = take (8 * i) ws ++ withCredits cents total (n - i) (drop (8 * i) ws)
+
+  pub credit-start : (ws : List ℕ) → creditsLeft ws 0 ≡ withCredits cents total n ws
+  credit-start ws = let front : 8 * 0 ≡ 0 = omega arith in rw (front, sub-zero n)
+
+  pub credit-turn : (ws : List ℕ) (i v : ℕ) → i < n → length ws ≡ 8 * n → v ≡ share cents total (getD ws (8 * i + 5) 0) → creditsLeft (set ws (8 * i + 7) v) (i + 1) ≡ creditsLeft ws i
+  unfolding withCredits
+  credit-turn ws i v h long e =
+      let next : 8 * (i + 1) ≡ suc (8 * i + 7) = omega arith in
+      let front : take (8 * (i + 1)) (set ws (8 * i + 7) v) ≡ take (8 * i) ws ++ (take 7 (drop (8 * i) ws) ++ (v ∷ []))
+      = ap (λ k. take k (set ws (8 * i + 7) v)) next ∙ take-suc-set ws (8 * i + 7) v (omega arith) ∙ ap (λ l. l ++ (v ∷ [])) (take-add (8 * i) 7 ws) ∙ append-assoc (take (8 * i) ws) (take 7 (drop (8 * i) ws)) (v ∷ []) in
+      let rest : drop (8 * (i + 1)) (set ws (8 * i + 7) v) ≡ drop 8 (drop (8 * i) ws)
+      = drop-set-lt (8 * (i + 1)) ws (8 * i + 7) v (omega arith) ∙ sym (eight-on ws i) in
+      let due : v ≡ share cents total (getD (drop (8 * i) ws) 5 0) = e ∙ ap (share cents total) (sym (getD-drop (8 * i) ws 5 0)) in
+      let later = withCredits cents total (n - (i + 1)) (drop 8 (drop (8 * i) ws)) in
+      ap₂ (λ l r. l ++ withCredits cents total (n - (i + 1)) r) front rest
+      ∙ append-assoc (take (8 * i) ws) (take 7 (drop (8 * i) ws) ++ (v ∷ [])) later
+      ∙ ap (λ l. take (8 * i) ws ++ l) (append-assoc (take 7 (drop (8 * i) ws)) (v ∷ []) later ∙ ap (λ w. take 7 (drop (8 * i) ws) ++ (w ∷ later)) due)
+      ∙ ap (λ m. take (8 * i) ws ++ withCredits cents total m (drop (8 * i) ws)) (sym (more-left n i h))
+
+  pub credit-end : (ws : List ℕ) (i : ℕ) → n ≤ i → creditsLeft ws i ≡ ws
+  unfolding withCredits
+  credit-end ws i h =
+      let none : n - i ≡ 0 = omega arith in
+      rw none (take-append-drop (8 * i) ws)

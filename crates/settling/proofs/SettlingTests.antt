@@ -1,0 +1,271 @@
+-- What the tests that settling makes, one after the other, say of its answer.
+use Prim.Native.Nat.{ℕ, zero, suc, _+_, _*_, _≤_, _<_}
+use mathlib.Core.Path.{_≡_, refl, sym, ap, ap₂, _∙_}
+use mathlib.Core.List.{List, [], _∷_, map}
+use mathlib.Core.Bool.{Bool, true, false, cond, not, _||_, true≢false}
+use native.Mathlib.Omega.{arith}
+use lib.ListN.{length, take, drop}
+use lib.Dec.{eqb}
+use borrow.Author.Tests.{lt-ltb, le-ltb, eqb-false, eq-eqb, ne-eqb}
+use Rattle.words.specs.Lists.{any, rises}
+use Rattle.words.specs.Words.{word32, word64}
+use Rattle.words.specs.Grounds.{answered}
+use Rattle.words.proofs.Tests.{facts, not-first, not-second}
+use Rattle.words.proofs.Grounds.{none-applies}
+use Rattle.reading.specs.Block.{idsOutOfOrder}
+use Rattle.reading.specs.Interval.{rowBytes, headerOf, rowAt, rowOf, rowsOf, notAFile, headerOutside, tablesMisplaced, rowOutside, pointsOutside}
+use Rattle.reading.proofs.Bounds.{ids-rise, file-has-header, tables-in}
+use Rattle.reading.proofs.Walk.{rowPart, row-part, rowsLeft, rows-start, rows-turn, rows-end, scanned}
+use Rattle.assessment.proofs.SumLaws.{partFrom}
+use Rattle.ledger.specs.Ledger.{ledgerBytes, accountAt, accountCount, ledgerOf, idsIn, accountOutside, notALedger}
+use Rattle.settling.specs.Settling.{resultHeaderBytes, resultRowBytes, assessedFile, otherTerms, tooEarly, rowIdsUnknown, resultTooShort, poolTooLarge, settlingGrounds, settling}
+use Rattle.settling.specs.Scratch.{Passed}
+use Rattle.ledger.proofs.Accounts.{accountPart, accountsLeft, accounts-start, accounts-turn, accounts-end}
+use Rattle.settling.proofs.Beside.{unmatched, unknown, met, passed-by, missed, none-left, all-met, walked}
+use Rattle.settling.proofs.Meeting.{accountIds, rowIds}
+use Rattle.settling.proofs.SettlingAnswers.{settledAnswer, settling-accepts, settling-refuses}
+use Rattle.ledger.proofs.Sound.{ledger-in, ledger-room, length-accounts}
+
+-- a list of grounds answers as its front does, where that is not 0
+answered-front : (n : ℕ) (gs : List (Bool × ℕ)) → eqb (answered (take n gs)) 0 ≡ false → answered gs ≡ answered (take n gs)
+unfolding answered
+answered-front zero gs e = absurd (true≢false e)
+answered-front (suc n) [] e = refl
+answered-front (suc n) (g ∷ gs) e = by (g .0) e (answered-front n gs)
+  where
+    by : (t : Bool) → eqb (cond t (g .1) (answered (take n gs))) 0 ≡ false → (eqb (answered (take n gs)) 0 ≡ false → answered gs ≡ answered (take n gs))
+        → cond t (g .1) (answered gs) ≡ cond t (g .1) (answered (take n gs))
+    by true q later = refl
+    by false q later = later q
+
+-- and as the rest does, where it is 0 (no ground has the number 0)
+answered-rest : (n : ℕ) (gs : List (Bool × ℕ)) → any (λ g. eqb (g .1) 0) gs ≡ false → answered (take n gs) ≡ 0 → answered gs ≡ answered (drop n gs)
+unfolding any answered
+answered-rest zero gs k e = refl
+answered-rest (suc n) [] k e = refl
+answered-rest (suc n) (g ∷ gs) k e = by (g .0) e (answered-rest n gs (not-second (eqb (g .1) 0) (any (λ g. eqb (g .1) 0) gs) k))
+  where
+    numbered : g .1 ≡ 0 → ⊥
+    numbered = eqb-false (g .1) 0 (not-first (eqb (g .1) 0) (any (λ g. eqb (g .1) 0) gs) k)
+
+    by : (t : Bool) → cond t (g .1) (answered (take n gs)) ≡ 0 → (answered (take n gs) ≡ 0 → answered gs ≡ answered (drop n gs))
+        → cond t (g .1) (answered gs) ≡ answered (drop n gs)
+    by true q later = absurd (numbered q)
+    by false q later = later q
+
+-- grounds 13 and 14, from one scan
+scanned-none : (f : List ℕ) → scanned f ≡ 0 → (any rowOutside (rowsOf f) ≡ false) × (any (pointsOutside (headerOf f .pointCount)) (rowsOf f) ≡ false)
+unfolding any
+scanned-none f e =
+    let none = none-applies ((any rowOutside (rowsOf f), 13) ∷ (any (pointsOutside (headerOf f .pointCount)) (rowsOf f), 14) ∷ []) refl e in
+    (search facts, search facts)
+
+-- the accounts of a ledger that ground 6 does not refuse
+accounts-in : (l : List ℕ) → notALedger l ≡ false → any (accountOutside (ledgerOf l .terms)) (ledgerOf l .accounts) ≡ false
+unfolding notALedger
+accounts-in l e = search facts depth 20
+
+-- and their bytes
+pub accounts-lie : (l : List ℕ) → notALedger l ≡ false → ledgerBytes (accountCount l) ≤ length l
+accounts-lie l e = rw (length-accounts l) at (ledger-room l e)
+
+-- ground 8: Net CONE of the file and of the ledger, then their days
+module _ (l f : List ℕ) (cone ours : ℕ) (e : cone ≡ word32 f 2) (k : ours ≡ word64 l 1) where
+  pub cone-other : (cone ≡ ours → ⊥) → otherTerms l f ≡ true
+  unfolding otherTerms headerOf ledgerOf
+  cone-other h = rw (← e, ← k, ne-eqb cone ours h)
+
+  pub days-decide : cone ≡ ours → (days same : ℕ) → days ≡ word32 f 3 → same ≡ word64 l 2 → otherTerms l f ≡ not (eqb days same)
+  unfolding otherTerms headerOf ledgerOf
+  days-decide h days same d m = rw (← e, ← k, ← d, ← m, eq-eqb cone ours h)
+
+-- a test of a figure of each member
+any-map : {A B : Type 0} (p : B → Bool) (g : A → B) (xs : List A) → any p (map g xs) ≡ any (λ x. p (g x)) xs
+unfolding any
+any-map p g [] = refl
+any-map p g (x ∷ xs) = ap (λ t. p (g x) || t) (any-map p g xs)
+
+-- the id of row i, read from the part of the file that it begins
+pub row-id : (f : List ℕ) (i id first : ℕ) → first ≡ headerOf f .rowsOffset → id ≡ word32 (partFrom f (first + rowBytes * i)) 0 → id ≡ rowOf f (rowPart f i) .id
+unfolding rowOf rowAt
+row-id f i id first at e = e ∙ ap (λ b. word32 b 0) (row-part f i at)
+
+-- ground 12, of a ledger and a file walked side by side
+module _ (l f : List ℕ) where
+  -- whether a row from i on is left without an account from j on
+  abbrev pub unknownLeft : ℕ → ℕ → Bool
+  unknownLeft i j = unmatched (accountIds (accountsLeft l j)) (rowIds (rowsLeft f i))
+
+  pub unknown-start : idsOutOfOrder (idsIn (ledgerOf l)) ≡ false → rowIdsUnknown (ledgerOf l) (rowsOf f) ≡ unknownLeft 0 0
+  unfolding rowIdsUnknown idsIn
+  unknown-start e =
+      let ids = accountIds (ledgerOf l .accounts) in
+      ap (λ t. not (rises (rowIds (rowsOf f))) || t) (sym (any-map (unknown ids) (λ r. r .id) (rowsOf f)))
+      ∙ walked 0 ids (rowIds (rowsOf f)) (ids-rise ids e)
+      ∙ ap₂ (λ accounts rows. unmatched (accountIds accounts) (rowIds rows)) (accounts-start l) (rows-start f)
+
+  -- whether row i has an account, where the accounts before j have other rows or none
+  module _ (i j : ℕ) (left : rowIdsUnknown (ledgerOf l) (rowsOf f) ≡ unknownLeft i j) where
+    pub row-beyond : i < headerOf f .rowCount → accountCount l ≤ j → rowIdsUnknown (ledgerOf l) (rowsOf f) ≡ true
+    row-beyond row none =
+        left
+        ∙ ap₂ (λ accounts rows. unmatched (accountIds accounts) (rowIds rows)) (accounts-end l j none) (rows-turn f i row)
+        ∙ none-left (rowOf f (rowPart f i) .id) (rowIds (rowsLeft f (i + 1)))
+
+    pub rows-met : headerOf f .rowCount ≤ i → rowIdsUnknown (ledgerOf l) (rowsOf f) ≡ false
+    rows-met none = left ∙ ap (λ rows. unmatched (accountIds (accountsLeft l j)) (rowIds rows)) (rows-end f i none) ∙ all-met (accountIds (accountsLeft l j))
+
+    -- the ids of account j and of row i
+    module _ (account : j < accountCount l) (row : i < headerOf f .rowCount) (a id : ℕ) (m : a ≡ accountAt (accountPart l j) .id) (n : id ≡ rowOf f (rowPart f i) .id) where
+      both : rowIdsUnknown (ledgerOf l) (rowsOf f) ≡ unmatched (a ∷ accountIds (accountsLeft l (j + 1))) (id ∷ rowIds (rowsLeft f (i + 1)))
+      both =
+          left
+          ∙ ap₂ (λ accounts rows. unmatched (accountIds accounts) (rowIds rows)) (accounts-turn l j account) (rows-turn f i row)
+          ∙ ap₂ (λ a id. unmatched (a ∷ accountIds (accountsLeft l (j + 1))) (id ∷ rowIds (rowsLeft f (i + 1)))) (sym m) (sym n)
+
+      pub row-missed : id < a → rowIdsUnknown (ledgerOf l) (rowsOf f) ≡ true
+      row-missed h = both ∙ missed a (accountIds (accountsLeft l (j + 1))) id (rowIds (rowsLeft f (i + 1))) h
+
+      -- the next row k, where row i has account j and where it does not
+      pub row-met : id ≡ a → (k : ℕ) → k ≡ i + 1 → rowIdsUnknown (ledgerOf l) (rowsOf f) ≡ unknownLeft k (j + 1)
+      row-met h k e =
+          both
+          ∙ met a (accountIds (accountsLeft l (j + 1))) id (rowIds (rowsLeft f (i + 1))) h
+          ∙ ap (λ k. unknownLeft k (j + 1)) (sym e)
+
+      pub row-later : a < id → (k : ℕ) → k ≡ i → rowIdsUnknown (ledgerOf l) (rowsOf f) ≡ unknownLeft k (j + 1)
+      row-later h k e =
+          both
+          ∙ passed-by a (accountIds (accountsLeft l (j + 1))) id (rowIds (rowsLeft f (i + 1))) h
+          ∙ ap (λ id. unmatched (accountIds (accountsLeft l (j + 1))) (id ∷ rowIds (rowsLeft f (i + 1)))) n
+          ∙ ap (λ rows. unmatched (accountIds (accountsLeft l (j + 1))) (rowIds rows)) (sym (rows-turn f i row))
+          ∙ ap (λ k. unknownLeft k (j + 1)) (sym e)
+
+-- ground 10
+in-time : (l f : List ℕ) → ledgerOf l .earliest ≤ headerOf f .interval → tooEarly l f ≡ false
+unfolding tooEarly
+in-time l f h = le-ltb (headerOf f .interval) (ledgerOf l .earliest) h
+
+-- a ledger, a file and a result buffer
+module _ (l f r : List ℕ) where
+  -- what is answered of grounds 6 to 15
+  abbrev pub beforePool : ℕ
+  beforePool = answered (take 10 (settlingGrounds l f r))
+
+  pub settling-6 : notALedger l ≡ true → beforePool ≡ 6
+  unfolding answered settlingGrounds
+  settling-6 e = rw e
+
+  module _ (e₆ : notALedger l ≡ false) where
+    pub settling-7 : notAFile f ≡ true → beforePool ≡ 7
+    unfolding answered settlingGrounds
+    settling-7 e = rw (e₆, e)
+
+    module _ (e₇ : notAFile f ≡ false) where
+      pub settling-8 : otherTerms l f ≡ true → beforePool ≡ 8
+      unfolding answered settlingGrounds
+      settling-8 e = rw (e₆, e₇, e)
+
+      module _ (e₈ : otherTerms l f ≡ false) where
+        pub settling-9 : headerOutside (headerOf f) ≡ true → beforePool ≡ 9
+        unfolding answered settlingGrounds
+        settling-9 e = rw (e₆, e₇, e₈, e)
+
+        module _ (e₉ : headerOutside (headerOf f) ≡ false) where
+          pub settling-10 : headerOf f .interval < ledgerOf l .earliest → beforePool ≡ 10
+          unfolding answered settlingGrounds tooEarly
+          settling-10 h = rw (e₆, e₇, e₈, e₉, lt-ltb (headerOf f .interval) (ledgerOf l .earliest) h)
+
+          module _ (h₁₀ : ledgerOf l .earliest ≤ headerOf f .interval) where
+            pub settling-11 : tablesMisplaced f ≡ true → beforePool ≡ 11
+            unfolding answered settlingGrounds
+            settling-11 e = rw (e₆, e₇, e₈, e₉, in-time l f h₁₀, e)
+
+            module _ (e₁₁ : tablesMisplaced f ≡ false) where
+              pub settling-12 : rowIdsUnknown (ledgerOf l) (rowsOf f) ≡ true → beforePool ≡ 12
+              unfolding answered settlingGrounds
+              settling-12 e = rw (e₆, e₇, e₈, e₉, in-time l f h₁₀, e₁₁, e)
+
+-- a ledger and a file that grounds 6 to 12 do not refuse
+pub record Tested (l f : List ℕ) : Type 0 where
+  pub ledger : notALedger l ≡ false
+  pub file : notAFile f ≡ false
+  pub terms : otherTerms l f ≡ false
+  pub header : headerOutside (headerOf f) ≡ false
+  pub interval : ledgerOf l .earliest ≤ headerOf f .interval
+  pub tables : tablesMisplaced f ≡ false
+  pub ids : rowIdsUnknown (ledgerOf l) (rowsOf f) ≡ false
+
+module _ (l f r : List ℕ) (t : Tested l f) where
+  -- grounds 13 to 15, which decide
+  abbrev lastGrounds : List (Bool × ℕ)
+  lastGrounds = (any rowOutside (rowsOf f), 13) ∷ (any (pointsOutside (headerOf f .pointCount)) (rowsOf f), 14) ∷ (resultTooShort f r, 15) ∷ []
+
+  last-decide : beforePool l f r ≡ answered lastGrounds
+  unfolding answered settlingGrounds
+  last-decide = rw (t .ledger, t .file, t .terms, t .header, in-time l f (t .interval), t .tables, t .ids)
+
+  pub settling-scan : (scanned f ≡ 0 → ⊥) → beforePool l f r ≡ scanned f
+  settling-scan some = last-decide ∙ answered-front 2 lastGrounds (ne-eqb (scanned f) 0 some)
+
+  module _ (e : scanned f ≡ 0) where
+    pub settling-15 : length r < resultHeaderBytes + resultRowBytes * headerOf f .rowCount → beforePool l f r ≡ 15
+    unfolding answered resultTooShort
+    settling-15 h = rw (last-decide, scanned-none f e .0, scanned-none f e .1, lt-ltb (length r) (resultHeaderBytes + resultRowBytes * headerOf f .rowCount) h)
+
+    pub settling-0 : resultHeaderBytes + resultRowBytes * headerOf f .rowCount ≤ length r → beforePool l f r ≡ 0
+    unfolding answered resultTooShort
+    settling-0 h = rw (last-decide, scanned-none f e .0, scanned-none f e .1, le-ltb (length r) (resultHeaderBytes + resultRowBytes * headerOf f .rowCount) h)
+
+-- what the answer of grounds 6 to 15 says of a call
+module _ (l f r : List ℕ) where
+  pub passed : beforePool l f r ≡ 0 → Passed l f
+  unfolding settlingGrounds any
+  passed e =
+      let none = none-applies (take 10 (settlingGrounds l f r)) refl e in
+      let g6 : notALedger l ≡ false = search facts depth 14 in
+      let g7 : notAFile f ≡ false = search facts depth 14 in
+      let g11 : tablesMisplaced f ≡ false = search facts depth 14 in
+      let ledger = ledger-in l g6 in
+      let tables = tables-in f g11 in
+      record {
+        room = accounts-lie l g6;
+        few = omega (arith, length-accounts l, ledger .few);
+        terms = ledger .terms;
+        ids = ledger .ids;
+        accounts = accounts-in l g6;
+        header = file-has-header f g7;
+        header-in = search facts depth 14;
+        rows-few = tables .rows;
+        rows-lie = tables .rows-lie;
+        points-lie = tables .points-lie;
+        known = search facts depth 14;
+        rows = search facts depth 14;
+        points = search facts depth 14;
+      }
+
+  pub result-room : beforePool l f r ≡ 0 → resultHeaderBytes + resultRowBytes * headerOf f .rowCount ≤ length r
+  unfolding settlingGrounds any resultTooShort
+  result-room e =
+      let none = none-applies (take 10 (settlingGrounds l f r)) refl e in
+      search facts depth 14
+
+  -- one of them refuses
+  pub refused-before : eqb (beforePool l f r) 0 ≡ false → settling l f r ≡ record { ground = beforePool l f r; ledger = l; result = r }
+  refused-before e =
+      let same = answered-front 10 (settlingGrounds l f r) e in
+      let some : eqb (answered (settlingGrounds l f r)) 0 ≡ false = rw same e in
+      settling-refuses l f r some ∙ ap (λ (g : ℕ). record { ground = g; ledger = l; result = r }) same
+
+  -- none of them does, so the pool decides
+  pool-decides : beforePool l f r ≡ 0 → answered (settlingGrounds l f r) ≡ cond (poolTooLarge (assessedFile l f)) 16 0
+  unfolding settlingGrounds any answered
+  pool-decides e = answered-rest 10 (settlingGrounds l f r) refl e
+
+  pub refused-16 : beforePool l f r ≡ 0 → poolTooLarge (assessedFile l f) ≡ true → settling l f r ≡ record { ground = 16; ledger = l; result = r }
+  refused-16 e p =
+      let same : answered (settlingGrounds l f r) ≡ 16 = pool-decides e ∙ ap (λ (t : Bool). cond t 16 0) p in
+      settling-refuses l f r (ap (λ (g : ℕ). eqb g 0) same) ∙ ap (λ (g : ℕ). record { ground = g; ledger = l; result = r }) same
+
+  pub accepted-all : beforePool l f r ≡ 0 → poolTooLarge (assessedFile l f) ≡ false → settling l f r ≡ settledAnswer l f r
+  accepted-all e p = settling-accepts l f r (pool-decides e ∙ ap (λ (t : Bool). cond t 16 0) p)

@@ -1,0 +1,44 @@
+-- What the code of settling relies on and keeps while it works: what grounds 6 to 14 leave, and the rows' words in scratch, eight a row as the result has them.
+use Prim.Native.Nat.{ℕ, zero, suc, _+_, _*_, _≤_}
+use mathlib.Core.Path.{_≡_}
+use mathlib.Core.List.{List, [], _∷_, _++_}
+use mathlib.Core.Bool.{false}
+use lib.ListN.{length, take, drop, getD}
+use Rattle.words.specs.Lists.{any}
+use Rattle.reading.specs.Block.{mostIds, termsOutside, idsOutOfOrder}
+use Rattle.reading.specs.Interval.{headerBytes, rowBytes, pointBytes, mostRows, headerOf, rowsOf, headerOutside, rowOutside, pointsOutside}
+use Rattle.assessment.specs.Assessment.{ChargedRow, share}
+use Rattle.ledger.specs.Ledger.{ledgerOf, ledgerBytes, accountCount, idsIn, accountOutside}
+use Rattle.settling.specs.Settling.{rowIdsUnknown}
+
+-- a ledger and a file that grounds 6 to 14 do not refuse
+pub record Passed (ledger file : List ℕ) : Type 0 where
+  pub room : ledgerBytes (accountCount ledger) ≤ length ledger
+  pub few : accountCount ledger ≤ mostIds
+  pub terms : termsOutside (ledgerOf ledger .terms) ≡ false
+  pub ids : idsOutOfOrder (idsIn (ledgerOf ledger)) ≡ false
+  pub accounts : any (accountOutside (ledgerOf ledger .terms)) (ledgerOf ledger .accounts) ≡ false
+  pub header : headerBytes ≤ length file
+  pub header-in : headerOutside (headerOf file) ≡ false
+  pub rows-few : headerOf file .rowCount ≤ mostRows
+  pub rows-lie : headerOf file .rowsOffset + rowBytes * headerOf file .rowCount ≤ length file
+  pub points-lie : headerOf file .pointsOffset + pointBytes * headerOf file .pointCount ≤ length file
+  pub known : rowIdsUnknown (ledgerOf ledger) (rowsOf file) ≡ false
+  pub rows : any rowOutside (rowsOf file) ≡ false
+  pub points : any (pointsOutside (headerOf file .pointCount)) (rowsOf file) ≡ false
+
+-- the rows' words before their credits are known: a credit of 0
+unfoldable pub chargedWords : List ChargedRow → List ℕ
+chargedWords [] = []
+chargedWords (c ∷ cs) =
+    c .figures .expected ∷ c .figures .actual ∷ c .figures .outage ∷ c .figures .economic ∷ c .figures .shortfall ∷ c .figures .bonus ∷ c .charge ∷ 0 ∷ chargedWords cs
+
+-- the sum of word k over n rows
+unfoldable pub sumOfWord : ℕ → ℕ → List ℕ → ℕ
+sumOfWord k zero ws = 0
+sumOfWord k (suc n) ws = getD ws k 0 + sumOfWord k n (drop 8 ws)
+
+-- n rows with the credit of each: the share of cents that its bonus, word 5, has in a total
+unfoldable pub withCredits : ℕ → ℕ → ℕ → List ℕ → List ℕ
+withCredits cents total zero ws = ws
+withCredits cents total (suc n) ws = take 7 ws ++ (share cents total (getD ws 5 0) ∷ withCredits cents total n (drop 8 ws))

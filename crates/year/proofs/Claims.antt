@@ -1,0 +1,184 @@
+-- The proofs of the claims of specs/Claims.antt.
+use Prim.Native.Nat.{ℕ, _*_, _^_, _<_, _≤_}
+use mathlib.Core.Path.{_≡_, refl, sym, ap, _∙_, subst}
+use mathlib.Core.Logic.{_⊎_, inl, ⊎-elim}
+use mathlib.Core.List.{List, List·Memᴰ}
+use mathlib.Core.Bool.{Bool, true, false}
+use native.Mathlib.Omega.{arith}
+use lib.ListN.{length, length-map, drop, getD}
+use lib.Dec.{eqb}
+use borrow.Author.Tests.{eqb-true}
+use Rattle.words.specs.Lists.{sum, any}
+use Rattle.words.specs.Words.{Bytes, numberAt, word64, written}
+use Rattle.words.specs.Grounds.{answered, outside}
+use Rattle.words.proofs.Words.{numberAt-lt, drop-bytes, entries-all, words-back, word-back, length-written, beyond-written}
+use Rattle.words.proofs.Grounds.{answered-in}
+use Rattle.reading.specs.Interval.{headerOf, rowsOf}
+use Rattle.assessment.specs.Assessment.{Account, ratioOf, chargedRow, Assessed, assessed, charges, totalBonus, pool, credit, credits}
+use Rattle.ledger.specs.Ledger.{mostCents, ledgerHeaderBytes, accountBytes, Ledger, accountAt, accountCount, ledgerOf, ledgerWords}
+use Rattle.ledger.specs.Opening.{openingGrounds, openedLedger, opening}
+use Rattle.settling.proofs.SettledLaws.{length-row-words}
+use Rattle.settling.specs.Settling.{assessedFile, resultWords, postedAll, settlingGrounds, settledLedger, settling}
+use Rattle.year.specs.Year.{Call, GivenRow, givenBy, newYear, afterCalls}
+use Rattle.year.specs.Claims.{SumsOfAYear, NeverLockedOut, wordsIn, Holds, OpeningReadsBack, ReadsBack, SettlingReadsBack, OpeningAnswers, OpeningRefusals, SettlingAnswers, SettlingRefusals}
+use Rattle.ledger.proofs.Sound.{opening-none, block-accepted, ledger-room}
+use Rattle.settling.proofs.Accepted.{settling-none, Accepted, accepted}
+use Rattle.year.proofs.LedgerBack.{Fits, ledger-words-fit, LedgerFits, length-ledger}
+use Rattle.year.proofs.Given.{given-back}
+use Rattle.year.proofs.Fits.{made, new, new-charges, new-credits, new-bonus, row-fits, ledger-fits, result-words-fit}
+use Rattle.settling.proofs.SettlingAnswers.{settledAnswer, settling-accepts, settling-refuses}
+use Rattle.ledger.proofs.OpeningAnswers.{opening-accepts, opening-refuses}
+use Rattle.year.proofs.Calls.{after-calls}
+use Rattle.year.proofs.Step.{Kept, good-block, accept-kept, opened-fits, opened-room, opened-kept}
+
+-- a year on a block of bytes, after any calls
+kept : (block ledger : List ℕ) → Bytes block → opening block ledger .ground ≡ 0 → (calls : List Call)
+    → Kept block (afterCalls (newYear (opening block ledger .ledger)) calls)
+kept block ledger bytes e calls =
+    let s = block-accepted block ledger (opening-none block ledger e) in
+    let a = opening-accepts block ledger (opening-none block ledger e) in
+    let start = subst (λ a. Kept block (newYear (a .ledger))) (sym a) (opened-kept block ledger s bytes) in
+    after-calls (Kept block) (λ y c k. accept-kept block bytes (good-block block ledger s) y k c) (newYear (opening block ledger .ledger)) calls start
+
+pub sums-of-a-year : SumsOfAYear
+unfolding SumsOfAYear
+sums-of-a-year block ledger bytes e calls = kept block ledger bytes e calls .sums
+
+pub never-locked-out : NeverLockedOut
+unfolding NeverLockedOut
+never-locked-out block ledger bytes e calls = kept block ledger bytes e calls .holds
+
+-- words that fit are held by a buffer that they are written to
+written-held : (ws b : List ℕ) → Fits ws → Holds ws b (written ws b)
+unfolding wordsIn word64 numberAt written
+written-held ws b fit = record { read-back = words-back 8 ws (drop (8 * length ws) b) fit; beyond = beyond-written ws b }
+
+pub opening-reads-back : OpeningReadsBack
+unfolding OpeningReadsBack
+opening-reads-back block ledger bytes e =
+    let s = block-accepted block ledger (opening-none block ledger e) in
+    let held = written-held (ledgerWords (openedLedger block)) ledger (ledger-words-fit (openedLedger block) (opened-fits block ledger s bytes)) in
+    subst (λ a. Holds (ledgerWords (openedLedger block)) ledger (a .ledger)) (sym (opening-accepts block ledger (opening-none block ledger e))) held
+
+-- an account read from bytes has an id that fits its word
+account-id-fits : (ledger : List ℕ) → Bytes ledger → (a : Account) → List·Memᴰ a (ledgerOf ledger .accounts) → a .id < 2 ^ 64
+unfolding ledgerOf accountAt word64
+account-id-fits ledger bytes =
+    entries-all accountBytes accountAt (λ a. a .id < 2 ^ 64) (λ b bytes. numberAt-lt 8 b 0 bytes) (accountCount ledger) (drop ledgerHeaderBytes ledger)
+    (drop-bytes ledgerHeaderBytes ledger bytes)
+
+-- an accepted call on a ledger of bytes
+module _ (ledger file result : List ℕ) (bytes : Bytes ledger) (s : Accepted ledger file result) where
+  abbrev l : Ledger
+  l = ledgerOf ledger
+
+  abbrev v : Assessed
+  v = made l (headerOf file) (rowsOf file)
+
+  small : pool v ≤ mostCents
+  unfolding assessedFile
+  small = s .pool
+
+  settled-fits : LedgerFits (settledLedger ledger file)
+  unfolding settledLedger assessedFile
+  settled-fits = ledger-fits l (headerOf file) (rowsOf file) (s .rows) small (s .ledger-is) (s .header) (s .days) (account-id-fits ledger bytes)
+
+  result-fits : Fits (resultWords (assessedFile ledger file))
+  unfolding assessedFile
+  result-fits = result-words-fit l (headerOf file) (rowsOf file) (s .rows) small (s .header) (s .rows-few)
+
+  given-new : givenBy file (written (resultWords v) result) ≡ new l (headerOf file) (rowsOf file)
+  unfolding assessed
+  given-new =
+      given-back v (l .terms) (l .accounts) (ratioOf (headerOf file) (rowsOf file)) file result refl (row-fits l (headerOf file) (rowsOf file) (s .rows) small)
+
+  -- a word of the written result
+  result-word : (k : ℕ) → k < length (resultWords v) → word64 (written (resultWords v) result) k ≡ getD (resultWords v) k 0
+  unfolding word64 numberAt written assessedFile
+  result-word k h = word-back 8 (resultWords v) (drop (8 * length (resultWords v)) result) k result-fits h
+
+  many : 8 ≤ length (resultWords v)
+  unfolding resultWords
+  many = omega arith
+
+  settled-back : ReadsBack ledger file result (settledAnswer ledger file result)
+  unfolding resultWords assessedFile
+  settled-back =
+      let h = headerOf file in
+      let rs = rowsOf file in
+      let back : (f : GivenRow → ℕ) (total : ℕ) → sum f (new l h rs) ≡ total → total ≡ sum f (givenBy file (written (resultWords v) result))
+      = λ f total e. sym e ∙ sym (ap (sum f) given-new) in
+      record {
+        ledger-holds = written-held (ledgerWords (settledLedger ledger file)) ledger (ledger-words-fit (settledLedger ledger file) settled-fits);
+        result-holds = written-held (resultWords v) result result-fits;
+        charges = result-word 1 (omega (arith, many)) ∙ back (λ g. g .charge) (charges v) (new-charges l h rs);
+        credits = result-word 2 (omega (arith, many)) ∙ back (λ g. g .credit) (credits v) (new-credits l h rs);
+        bonus = result-word 4 (omega (arith, many)) ∙ back (λ g. g .bonus) (totalBonus v) (new-bonus l h rs);
+      }
+
+pub settling-reads-back : SettlingReadsBack
+unfolding SettlingReadsBack
+settling-reads-back ledger file result bytes e =
+    let none = settling-none ledger file result e in
+    subst (ReadsBack ledger file result) (sym (settling-accepts ledger file result none)) (settled-back ledger file result bytes (accepted ledger file result e))
+
+opening-ground : (block ledger : List ℕ) → answered (openingGrounds block ledger) ≤ 5
+unfolding openingGrounds any outside
+opening-ground block ledger = ⊎-elim (λ e. omega (arith, e)) (λ h. h .1) (answered-in 1 5 (openingGrounds block ledger) refl)
+
+pub opening-refusals : OpeningRefusals
+unfolding OpeningRefusals
+opening-refusals block ledger = by (eqb g 0) refl
+  where
+    g : ℕ
+    g = answered (openingGrounds block ledger)
+
+    by : (t : Bool) → eqb g 0 ≡ t → OpeningAnswers ledger (opening block ledger)
+    by true e =
+        let a = opening-accepts block ledger (eqb-true g 0 e) in
+        let s = block-accepted block ledger (eqb-true g 0 e) in
+        subst (OpeningAnswers ledger) (sym a)
+        (record { ground = omega arith; refused = λ h. absurd (omega arith); length-kept = length-ledger (openedLedger block) ledger (opened-room block ledger s) })
+    by false e =
+        subst (OpeningAnswers ledger) (sym (opening-refuses block ledger e))
+        (record { ground = opening-ground block ledger; refused = λ h. refl; length-kept = refl })
+
+settling-ground : (ledger file result : List ℕ) → let g = answered (settlingGrounds ledger file result) in (g ≡ 0) ⊎ ((6 ≤ g) × (g ≤ 16))
+unfolding settlingGrounds any outside
+settling-ground ledger file result = answered-in 6 16 (settlingGrounds ledger file result) refl
+
+-- writing what an accepted call gives keeps both lengths
+module _ (ledger file result : List ℕ) (s : Accepted ledger file result) where
+  abbrev w : Assessed
+  w = assessedFile ledger file
+
+  rows-given : length (w .rows) ≡ length (rowsOf file)
+  unfolding assessedFile assessed
+  rows-given = length-map (rowsOf file) (chargedRow (ledgerOf ledger .terms) (ledgerOf ledger .accounts) (ratioOf (headerOf file) (rowsOf file)))
+
+  result-length : length (written (resultWords w) result) ≡ length result
+  unfolding resultWords
+  result-length = length-written (resultWords w) result (omega (arith, length-row-words w (w .rows), rows-given, s .room))
+
+  ledger-length : length (written (ledgerWords (settledLedger ledger file)) ledger) ≡ length ledger
+  unfolding settledLedger
+  ledger-length =
+      let n = length-map (ledgerOf ledger .accounts) (postedAll w (w .rows)) in
+      length-ledger (settledLedger ledger file) ledger (rw n (ledger-room ledger (s .ledger-holds)))
+
+pub settling-refusals : SettlingRefusals
+unfolding SettlingRefusals
+settling-refusals ledger file result = by (eqb g 0) refl
+  where
+    g : ℕ
+    g = answered (settlingGrounds ledger file result)
+
+    by : (t : Bool) → eqb g 0 ≡ t → SettlingAnswers ledger result (settling ledger file result)
+    by true e =
+        let a = settling-accepts ledger file result (eqb-true g 0 e) in
+        let s = accepted ledger file result (ap (λ a. a .ground) a) in
+        subst (SettlingAnswers ledger result) (sym a)
+        (record { ground = inl refl; refused = λ h. absurd (omega arith); lengths-kept = (ledger-length ledger file result s, result-length ledger file result s) })
+    by false e =
+        subst (SettlingAnswers ledger result) (sym (settling-refuses ledger file result e))
+        (record { ground = settling-ground ledger file result; refused = λ h. (refl, refl); lengths-kept = (refl, refl) })

@@ -1,0 +1,173 @@
+-- A ledger that has been written is read back, where its words fit 64 bits, and ground 6 does not refuse it, where it is in order.
+use Prim.Native.Nat.{ℕ, _+_, _*_, _^_, _<_, _≤_}
+use mathlib.Core.Path.{_≡_, refl, ap, _∙_}
+use mathlib.Core.Logic.{⊎-elim}
+use mathlib.Core.List.{List, [], _∷_, _++_, List·Memᴰ, List·Memᴰ·head, List·Memᴰ·tail, List·Memᴰ·cases-cons, List·Memᴰ·not-nil}
+use mathlib.Core.Bool.{false}
+use native.Mathlib.Omega.{arith}
+use lib.ListN.{length, drop}
+use lib.Dec.{ltb}
+use borrow.Author.Tests.{eq-eqb, le-ltb}
+use Rattle.words.specs.Lists.{sum}
+use Rattle.words.specs.Words.{number, bytesOf, numberAt, word64, entries, bytesOfWords, written}
+use Rattle.words.specs.Grounds.{outside}
+use Rattle.words.proofs.Lists.{none-pass}
+use Rattle.words.proofs.Words.{first-word, entries-back, length-written}
+use Rattle.reading.specs.Block.{mostIds, Terms, termsOutside, idsOutOfOrder}
+use Rattle.reading.specs.Interval.{intervalsPerDay, mostKilowatts}
+use Rattle.assessment.specs.Assessment.{Account, limit}
+use Rattle.ledger.specs.Ledger.{ledgerHeaderBytes, accountBytes, mostCents, mostCredited, Ledger, ledgerBytes, accountAt, accountCount, ledgerOf, accountWords, ledgerWords, idsIn, notLaidOut, accountOutside, doesNotClose, notALedger}
+use Rattle.ledger.proofs.Sound.{AccountIn}
+
+-- words that fit 64 bits
+abbrev pub Fits : List ℕ → Type 0
+Fits ws = (w : ℕ) → List·Memᴰ w ws → w < 2 ^ 64
+
+pub fits-nil : Fits []
+fits-nil w m = absurd (List·Memᴰ·not-nil m)
+
+pub fits-cons : (v : ℕ) (ws : List ℕ) → v < 2 ^ 64 → Fits ws → Fits (v ∷ ws)
+fits-cons v ws h fit w m = ⊎-elim (λ e. omega (arith, e)) (fit w) (List·Memᴰ·cases-cons m)
+
+pub record AccountFits (a : Account) : Type 0 where
+  pub id : a .id < 2 ^ 64
+  pub largest : a .largest < 2 ^ 64
+  pub charged : a .charged < 2 ^ 64
+  pub credited : a .credited < 2 ^ 64
+
+pub record LedgerFits (l : Ledger) : Type 0 where
+  pub netCone : l .terms .netCone < 2 ^ 64
+  pub days : l .terms .days < 2 ^ 64
+  pub earliest : l .earliest < 2 ^ 64
+  pub carried : l .carried < 2 ^ 64
+  pub count : length (l .accounts) < 2 ^ 64
+  pub accounts : (a : Account) → List·Memᴰ a (l .accounts) → AccountFits a
+
+account-words-fit : (xs : List Account) → ((a : Account) → List·Memᴰ a xs → AccountFits a) → Fits (accountWords xs)
+unfolding accountWords
+account-words-fit [] fit = fits-nil
+account-words-fit (a ∷ xs) fit =
+    let f = fit a (List·Memᴰ·head refl) in
+    fits-cons _ _ (f .id) (fits-cons _ _ (f .largest) (fits-cons _ _ (f .charged) (fits-cons _ _ (f .credited) (account-words-fit xs (λ b m. fit b (List·Memᴰ·tail m))))))
+
+pub ledger-words-fit : (l : Ledger) → LedgerFits l → Fits (ledgerWords l)
+unfolding ledgerWords
+ledger-words-fit l f =
+    let later = fits-cons 8 _ (omega arith) (fits-cons 0 _ (omega arith) (account-words-fit (l .accounts) (f .accounts))) in
+    fits-cons 1 _ (omega arith) (fits-cons _ _ (f .netCone) (fits-cons _ _ (f .days) (fits-cons _ _ (f .earliest) (fits-cons _ _ (f .carried) (fits-cons _ _ (f .count) later)))))
+
+-- the accounts of a written ledger
+account-back : (rest : List ℕ) (a : Account) (xs : List Account) → AccountFits a → accountAt (bytesOfWords 8 (accountWords (a ∷ xs)) ++ rest) ≡ a
+unfolding accountAt word64 numberAt accountWords bytesOfWords bytesOf
+account-back rest a xs f =
+    let ws = accountWords xs in
+    λ i. record {
+      id = first-word 8 (a .id) (a .largest ∷ a .charged ∷ a .credited ∷ ws) rest (f .id) i;
+      largest = first-word 8 (a .largest) (a .charged ∷ a .credited ∷ ws) rest (f .largest) i;
+      charged = first-word 8 (a .charged) (a .credited ∷ ws) rest (f .charged) i;
+      credited = first-word 8 (a .credited) ws rest (f .credited) i;
+    }
+
+next-accounts : (rest : List ℕ) (a : Account) (xs : List Account)
+    → drop accountBytes (bytesOfWords 8 (accountWords (a ∷ xs)) ++ rest) ≡ bytesOfWords 8 (accountWords xs) ++ rest
+unfolding accountWords bytesOfWords bytesOf
+next-accounts rest a xs = refl
+
+accounts-back : (rest : List ℕ) (xs : List Account) → ((a : Account) → List·Memᴰ a xs → AccountFits a)
+    → entries accountBytes accountAt (length xs) (bytesOfWords 8 (accountWords xs) ++ rest) ≡ xs
+accounts-back rest = entries-back accountBytes accountAt (λ xs. bytesOfWords 8 (accountWords xs)) rest AccountFits (account-back rest) (next-accounts rest)
+
+pub ledger-back : (l : Ledger) (b : List ℕ) → LedgerFits l → ledgerOf (written (ledgerWords l) b) ≡ l
+unfolding ledgerOf accountCount written ledgerWords bytesOfWords bytesOf word64 numberAt
+ledger-back l b f =
+    let ws = accountWords (l .accounts) in
+    let rest = drop (8 * length (ledgerWords l)) b in
+    let n = length (l .accounts) in
+    let t = l .terms in
+    let counted : number 8 (bytesOfWords 8 (n ∷ 8 ∷ 0 ∷ ws) ++ rest) ≡ n = first-word 8 n (8 ∷ 0 ∷ ws) rest (f .count) in
+    λ i. record {
+      terms = record {
+        netCone = first-word 8 (t .netCone) (t .days ∷ l .earliest ∷ l .carried ∷ n ∷ 8 ∷ 0 ∷ ws) rest (f .netCone) i;
+        days = first-word 8 (t .days) (l .earliest ∷ l .carried ∷ n ∷ 8 ∷ 0 ∷ ws) rest (f .days) i;
+      };
+      earliest = first-word 8 (l .earliest) (l .carried ∷ n ∷ 8 ∷ 0 ∷ ws) rest (f .earliest) i;
+      carried = first-word 8 (l .carried) (n ∷ 8 ∷ 0 ∷ ws) rest (f .carried) i;
+      accounts = (ap (λ k. entries accountBytes accountAt k (bytesOfWords 8 ws ++ rest)) counted ∙ accounts-back rest (l .accounts) (f .accounts)) i;
+    }
+
+length-accountWords : (xs : List Account) → length (accountWords xs) ≡ 4 * length xs
+unfolding accountWords
+length-accountWords [] = refl
+length-accountWords (a ∷ xs) = omega (arith, length-accountWords xs)
+
+-- writing a ledger where there is room for it keeps the buffer's length
+pub length-ledger : (l : Ledger) (b : List ℕ) → ledgerBytes (length (l .accounts)) ≤ length b → length (written (ledgerWords l) b) ≡ length b
+unfolding ledgerWords ledgerBytes
+length-ledger l b h = length-written (ledgerWords l) b (omega (arith, length-accountWords (l .accounts)))
+
+-- the words of a written ledger that its values do not show
+record Laid (l : Ledger) (b : List ℕ) : Type 0 where
+  pub format : word64 b 0 ≡ 1
+  pub count : accountCount b ≡ length (l .accounts)
+  pub offset : word64 b 6 ≡ 8
+  pub last : word64 b 7 ≡ 0
+
+laid : (l : Ledger) (b : List ℕ) → length (l .accounts) < 2 ^ 64 → Laid l (written (ledgerWords l) b)
+unfolding accountCount word64 numberAt written ledgerWords bytesOfWords bytesOf
+laid l b h =
+    let ws = accountWords (l .accounts) in
+    let rest = drop (8 * length (ledgerWords l)) b in
+    let n = length (l .accounts) in
+    let t = l .terms in
+    record {
+      format = first-word 8 1 (t .netCone ∷ t .days ∷ l .earliest ∷ l .carried ∷ n ∷ 8 ∷ 0 ∷ ws) rest (omega arith);
+      count = first-word 8 n (8 ∷ 0 ∷ ws) rest h;
+      offset = first-word 8 8 (0 ∷ ws) rest (omega arith);
+      last = first-word 8 0 ws rest (omega arith);
+    }
+
+-- what makes a ledger one in order
+pub record InOrder (l : Ledger) : Type 0 where
+  pub terms : termsOutside (l .terms) ≡ false
+  pub ids : idsOutOfOrder (idsIn l) ≡ false
+  pub some : 1 ≤ length (l .accounts)
+  pub few : length (l .accounts) ≤ mostIds
+  pub earliest : l .earliest ≤ intervalsPerDay * l .terms .days
+  pub carried : l .carried ≤ mostCents
+  pub accounts : (a : Account) → List·Memᴰ a (l .accounts) → AccountIn (l .terms) a
+  pub closes : sum (λ a. a .charged) (l .accounts) ≡ sum (λ a. a .credited) (l .accounts) + l .carried
+
+account-good : (t : Terms) (a : Account) → AccountIn t a → accountOutside t a ≡ false
+unfolding accountOutside
+account-good t a s =
+    rw (le-ltb mostKilowatts (a .largest) (s .largest), le-ltb (limit t (a .largest)) (a .charged) (s .charged)) (le-ltb mostCredited (a .credited) (s .credited))
+
+laid-out : (l : Ledger) (b : List ℕ) → Laid l b → notLaidOut b ≡ false
+unfolding notLaidOut
+laid-out l b p = rw (eq-eqb (word64 b 0) 1 (p .format), eq-eqb (word64 b 6) 8 (p .offset), eq-eqb (word64 b 7) 0 (p .last))
+
+in-range : (n : ℕ) → 1 ≤ n → n ≤ mostIds → outside 1 mostIds n ≡ false
+unfolding outside
+in-range n some few = rw (le-ltb n 1 some, le-ltb mostIds n few)
+
+closing : (l : Ledger) → InOrder l → doesNotClose l ≡ false
+unfolding doesNotClose
+closing l s = rw (eq-eqb (sum (λ a. a .charged) (l .accounts)) (sum (λ a. a .credited) (l .accounts) + l .carried) (s .closes))
+
+-- a buffer that holds a ledger in order, where there is room for it, passes ground 6
+holds : (l : Ledger) (b : List ℕ) → ledgerOf b ≡ l → Laid l b → ledgerBytes (length (l .accounts)) ≤ length b → InOrder l → notALedger b ≡ false
+unfolding notALedger ledgerBytes
+holds l b back p room s =
+    let counted = p .count in
+    let e1 : ltb (length b) ledgerHeaderBytes ≡ false = le-ltb (length b) ledgerHeaderBytes (omega (arith, room)) in
+    let e2 = laid-out l b p in
+    let e3 : outside 1 mostIds (accountCount b) ≡ false = rw counted (in-range (length (l .accounts)) (s .some) (s .few)) in
+    let e4 : ltb (length b) (ledgerHeaderBytes + accountBytes * accountCount b) ≡ false
+    = le-ltb (length b) (ledgerHeaderBytes + accountBytes * accountCount b) (omega (arith, counted, room)) in
+    let e5 = le-ltb (intervalsPerDay * l .terms .days) (l .earliest) (s .earliest) in
+    let e6 = le-ltb mostCents (l .carried) (s .carried) in
+    let e7 = none-pass (accountOutside (l .terms)) (l .accounts) (λ a m. account-good (l .terms) a (s .accounts a m)) in
+    rw (e1, e2, e3, e4, back, s .terms, s .ids, e5, e6, e7, closing l s)
+
+pub written-holds : (l : Ledger) (b : List ℕ) → LedgerFits l → ledgerBytes (length (l .accounts)) ≤ length b → InOrder l → notALedger (written (ledgerWords l) b) ≡ false
+written-holds l b fit room s = holds l (written (ledgerWords l) b) (ledger-back l b fit) (laid l b (fit .count)) (rw (length-ledger l b room) room) s

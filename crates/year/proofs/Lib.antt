@@ -1,0 +1,10 @@
+pub mod LedgerBack
+pub mod Given
+pub mod PostedSums
+pub mod Fits
+pub mod Totals
+pub mod Limits
+pub mod Calls
+pub mod Books
+pub mod Step
+pub mod Claims

@@ -1,0 +1,241 @@
+-- The sums of a year hold on a fresh ledger, and on after each accepted call.
+use Prim.Native.Nat.{ℕ, _+_, _^_, _<_, _≤_, max}
+use mathlib.Core.Path.{_≡_, refl, sym, ap, _∙_, subst}
+use mathlib.Core.Logic.{_⊎_, ⊎-elim}
+use mathlib.Core.List.{List, [], _∷_, _++_, map, List·Memᴰ, List·Memᴰ·not-nil, List·Memᴰ·append-cases, Memᴰ·of-map}
+use mathlib.Core.Bool.{false, cond}
+use native.Mathlib.Omega.{arith}
+use lib.ListN.{length, length-map}
+use lib.Dec.{ltb}
+use Rattle.words.specs.Lists.{sum}
+use Rattle.words.specs.Words.{Bytes, word64, written}
+use Rattle.words.proofs.Lists.{sum-append, sum-map, found-member}
+use Rattle.reading.specs.Block.{blockOf}
+use Rattle.reading.specs.Interval.{Row, headerOf, rowsOf}
+use Rattle.reading.proofs.Bounds.{terms-in, length-ids, ids-rise}
+use Rattle.assessment.specs.Assessment.{Ratio, ratioOf, limit, accountOf, chargedRow, Assessed, assessed, pool, carriedOn}
+use Rattle.assessment.proofs.Promises.{exclusive}
+use Rattle.assessment.proofs.Shares.{credits-le, carried-lt}
+use Rattle.ledger.specs.Ledger.{mostCents, Ledger, ledgerBytes, ledgerOf, ledgerWords, idsIn, notALedger}
+use Rattle.ledger.specs.Opening.{emptyAccount, openedLedger}
+use Rattle.settling.specs.Settling.{assessedFile, resultWords, postedAll, settledLedger, settling}
+use Rattle.year.specs.Year.{Call, GivenRow, givenBy, Year, newYear, sumOfPlant, largestOfPlant, accountByRows, rowsWithBonus}
+use Rattle.year.specs.Claims.{SumsHold}
+use Rattle.ledger.proofs.Sound.{BlockAccepted, ledger-room}
+use Rattle.settling.proofs.Accepted.{Accepted, accepted}
+use Rattle.year.proofs.LedgerBack.{AccountFits, LedgerFits, ledger-back, written-holds}
+use Rattle.year.proofs.Given.{givenOf, given-back}
+use Rattle.year.proofs.Fits.{made, new, new-charges, new-credits, new-bonus, pool-is, from-row, row-fits, new-committed, ledger-fits}
+use Rattle.year.proofs.Totals.{largest-append, plant-append}
+use Rattle.year.proofs.Limits.{within-limit}
+use Rattle.year.proofs.Calls.{accept}
+use Rattle.ledger.proofs.OpeningAnswers.{openedAnswer}
+use Rattle.year.proofs.Books.{id-fits, found, posted-accounts, Books, GoodBlock, same-ids, in-order}
+
+-- what every call keeps
+pub record Kept (block : List ℕ) (y : Year) : Type 0 where
+  pub sums : SumsHold block y
+  pub books : Books block (ledgerOf (y .ledger)) (y .given)
+  pub holds : notALedger (y .ledger) ≡ false
+
+pub good-block : (block ledger : List ℕ) → BlockAccepted block ledger → GoodBlock block
+good-block block ledger s =
+    let n = length-ids block in
+    record { terms = s .terms; ids = s .ids; some = omega (arith, n, s .some); few = omega (arith, n, s .few) }
+
+carried-word : (b : List ℕ) → word64 b 4 ≡ ledgerOf b .carried
+unfolding ledgerOf
+carried-word b = refl
+
+-- an accepted call on a year that keeps the sums
+module _ (block : List ℕ) (bytes : Bytes block) (good : GoodBlock block) (y : Year) (k : Kept block y) (c : Call)
+    (e : settling (y .ledger) (c .file) (c .result) .ground ≡ 0) where
+  abbrev l : Ledger
+  l = ledgerOf (y .ledger)
+
+  abbrev rs : List Row
+  rs = rowsOf (c .file)
+
+  abbrev q : Ratio
+  q = ratioOf (headerOf (c .file)) rs
+
+  abbrev v : Assessed
+  v = made l (headerOf (c .file)) rs
+
+  abbrev gs : List GivenRow
+  gs = new l (headerOf (c .file)) rs
+
+  s : Accepted (y .ledger) (c .file) (c .result)
+  s = accepted (y .ledger) (c .file) (c .result) e
+
+  small : pool v ≤ mostCents
+  unfolding assessedFile
+  small = s .pool
+
+  -- the rows given are read back
+  given-rows : givenBy (c .file) (written (resultWords v) (c .result)) ≡ gs
+  unfolding assessed
+  given-rows = given-back v (l .terms) (l .accounts) q (c .file) (c .result) refl (row-fits l (headerOf (c .file)) rs (s .rows) small)
+
+  -- so is the ledger
+  after : Ledger
+  after = record { terms = l .terms; earliest = headerOf (c .file) .interval + 1; carried = carriedOn v; accounts = map (postedAll v (v .rows)) (l .accounts) }
+
+  after-fits : LedgerFits after
+  unfolding after accountByRows
+  after-fits = ledger-fits l (headerOf (c .file)) rs (s .rows) small (s .ledger-is) (s .header) (s .days)
+      (λ a m. let (i, at, p) = Memᴰ·of-map (accountByRows (y .given)) (blockOf block .ids) (subst (List·Memᴰ a) (k .books .accounts) m) in
+      subst (λ a. a .id < 2 ^ 64) p (id-fits block bytes i at))
+
+  -- the sums with the rows given added
+  new-accounts : after .accounts ≡ map (accountByRows (y .given ++ gs)) (blockOf block .ids)
+  unfolding after
+  new-accounts = ap (map (postedAll v (v .rows))) (k .books .accounts) ∙ posted-accounts v (v .rows) (y .given) (blockOf block .ids)
+
+  new-closes : sum (λ g. g .charge) (y .given ++ gs) ≡ sum (λ g. g .credit) (y .given ++ gs) + after .carried
+  unfolding after carriedOn
+  new-closes =
+      let h = headerOf (c .file) in
+      rw (sum-append (λ g. g .charge) (y .given) gs, sum-append (λ g. g .credit) (y .given) gs)
+      (omega (arith, k .books .closes, new-charges l h rs, new-credits l h rs, pool-is l h rs, credits-le v))
+
+  under-limit : (i : ℕ) → List·Memᴰ i (blockOf block .ids)
+      → sumOfPlant i (λ g. g .charge) (y .given) + sumOfPlant i (λ g. g .charge) gs
+      ≤ limit (l .terms) (max (largestOfPlant i (y .given)) (largestOfPlant i gs))
+  unfolding assessed accountByRows
+  under-limit i m =
+      let own : accountOf i (l .accounts) ≡ accountByRows (y .given) i = ap (accountOf i) (k .books .accounts) ∙ found (y .given) i (blockOf block .ids) m in
+      let step = subst (λ a. a .charged ≤ limit (l .terms) (a .largest)
+      → a .charged + sumOfPlant i (λ g. g .charge) gs ≤ limit (l .terms) (max (a .largest) (largestOfPlant i gs))) own
+      (within-limit v (l .terms) (l .accounts) q i rs (s .ids-rise)) in
+      step (rw (k .books .terms) (k .books .limited i m))
+
+  new-limited : (i : ℕ) → List·Memᴰ i (blockOf block .ids)
+      → sumOfPlant i (λ g. g .charge) (y .given ++ gs) ≤ limit (blockOf block .terms) (largestOfPlant i (y .given ++ gs))
+  new-limited i m =
+      rw (plant-append i (λ g. g .charge) (y .given) gs, largest-append i (y .given) gs)
+      (subst (λ t. sumOfPlant i (λ g. g .charge) (y .given) + sumOfPlant i (λ g. g .charge) gs ≤ limit t (max (largestOfPlant i (y .given)) (largestOfPlant i gs)))
+      (k .books .terms) (under-limit i m))
+
+  new-known : (g : GivenRow) → List·Memᴰ g gs → List·Memᴰ (g .id) (blockOf block .ids)
+  unfolding givenOf chargedRow
+  new-known g m =
+      let (r, at, p) = from-row l (headerOf (c .file)) rs g m in
+      let id-in = found-member (r .id) (idsIn l) (s .ids-known r at) in
+      subst (λ g. List·Memᴰ (g .id) (blockOf block .ids)) p (subst (List·Memᴰ (r .id)) (same-ids block good l (y .given) (k .books)) id-in)
+
+  new-exclusive : (g : GivenRow) → List·Memᴰ g gs → (g .shortfall ≡ 0) ⊎ (g .bonus ≡ 0)
+  unfolding givenOf chargedRow
+  new-exclusive g m =
+      let (r, at, p) = from-row l (headerOf (c .file)) rs g m in
+      subst (λ g. (g .shortfall ≡ 0) ⊎ (g .bonus ≡ 0)) p (exclusive q r)
+
+  new-books : Books block after (y .given ++ gs)
+  unfolding after
+  new-books = record {
+    terms = k .books .terms;
+    accounts = new-accounts;
+    closes = new-closes;
+    limited = new-limited;
+    known = λ g m. ⊎-elim (k .books .known g) (new-known g) (List·Memᴰ·append-cases (y .given) m);
+    committed = λ g m. ⊎-elim (k .books .committed g) (new-committed l (headerOf (c .file)) rs (s .rows) small g) (List·Memᴰ·append-cases (y .given) m);
+  }
+
+  new-rest : 0 < sum (λ g. g .bonus) gs → carriedOn v < rowsWithBonus gs
+  unfolding rowsWithBonus givenOf
+  new-rest p =
+      let h = headerOf (c .file) in
+      rw (sum-map (λ g. cond (ltb 0 (g .bonus)) 1 0) (givenOf v) (v .rows)) (carried-lt (l .terms) (l .accounts) (l .carried) h rs (rw (new-bonus l h rs) at p))
+
+  -- ground 6 does not refuse the ledger that is left
+  left-holds : notALedger (written (ledgerWords after) (y .ledger)) ≡ false
+  unfolding after
+  left-holds =
+      let room = ledger-room (y .ledger) (k .holds) in
+      let n = length-map (l .accounts) (postedAll v (v .rows)) in
+      let early = s .header .interval in
+      written-holds after (y .ledger) after-fits (rw n room)
+      (in-order block good after (y .given ++ gs) new-books (omega (arith, early, s .days)) (unfold carriedOn in omega (arith, small)))
+
+  pub accept-kept : Kept block (accept y c)
+  unfolding settledLedger assessedFile after
+  accept-kept =
+      let left = written (ledgerWords after) (y .ledger) in
+      let back : ledgerOf left ≡ after = ledger-back after (y .ledger) after-fits in
+      let carried : word64 left 4 ≡ carriedOn v = carried-word left ∙ ap (λ l. l .carried) back in
+      let books = subst (λ l. Books block l (y .given ++ gs)) (sym back) new-books in
+      subst (λ rows. Kept block (record { ledger = left; given = y .given ++ rows; last = rows })) (sym given-rows)
+      (record {
+        sums = record {
+          closes = rw carried new-closes;
+          rest = λ p. rw carried (new-rest p);
+          exclusive = λ g m. ⊎-elim (k .sums .exclusive g) (new-exclusive g) (List·Memᴰ·append-cases (y .given) m);
+          limited = new-limited;
+          accounts = books .accounts;
+          known = books .known;
+        };
+        books = books;
+        holds = left-holds;
+      })
+
+-- a freshly opened ledger
+module _ (block ledger : List ℕ) (s : BlockAccepted block ledger) where
+  abbrev opened : Ledger
+  opened = openedLedger block
+
+  empty-accounts : (is : List ℕ) → map emptyAccount is ≡ map (accountByRows []) is
+  unfolding emptyAccount accountByRows sumOfPlant largestOfPlant sum
+  empty-accounts [] = refl
+  empty-accounts (i ∷ is) = ap (λ rest. emptyAccount i ∷ rest) (empty-accounts is)
+
+  opened-books : Books block opened []
+  unfolding openedLedger sum sumOfPlant largestOfPlant
+  opened-books = record {
+    terms = refl;
+    accounts = empty-accounts (blockOf block .ids);
+    closes = omega arith;
+    limited = λ i m. omega arith;
+    known = λ g m. absurd (List·Memᴰ·not-nil m);
+    committed = λ g m. absurd (List·Memᴰ·not-nil m);
+  }
+
+  opened-length : length (opened .accounts) ≡ blockOf block .idCount
+  unfolding openedLedger
+  opened-length = length-map (blockOf block .ids) emptyAccount ∙ length-ids block
+
+  pub opened-fits : Bytes block → LedgerFits opened
+  unfolding openedLedger emptyAccount
+  opened-fits bytes =
+      let t = terms-in (blockOf block .terms) (s .terms) in
+      record {
+        netCone = omega (arith, t .netCone);
+        days = omega (arith, t .days);
+        earliest = omega arith;
+        carried = omega arith;
+        count = omega (arith, opened-length, s .few);
+        accounts = λ a m. let (i, at, e) = Memᴰ·of-map emptyAccount (blockOf block .ids) m in
+            subst AccountFits e (record { id = id-fits block bytes i at; largest = omega arith; charged = omega arith; credited = omega arith });
+      }
+
+  pub opened-room : ledgerBytes (length (opened .accounts)) ≤ length ledger
+  opened-room = rw opened-length (s .room)
+
+  pub opened-kept : Bytes block → Kept block (newYear (openedAnswer block ledger .ledger))
+  unfolding newYear sum
+  opened-kept bytes =
+      let left = written (ledgerWords opened) ledger in
+      let back : ledgerOf left ≡ opened = ledger-back opened ledger (opened-fits bytes) in
+      let books = subst (λ l. Books block l []) (sym back) opened-books in
+      record {
+        sums = record {
+          closes = rw (carried-word left) (books .closes);
+          rest = λ p. omega arith;
+          exclusive = λ g m. absurd (List·Memᴰ·not-nil m);
+          limited = books .limited;
+          accounts = books .accounts;
+          known = books .known;
+        };
+        books = books;
+        holds = written-holds opened ledger (opened-fits bytes) opened-room
+            (in-order block (good-block block ledger s) opened [] opened-books (unfold openedLedger in omega arith) (unfold openedLedger in omega arith));
+      }

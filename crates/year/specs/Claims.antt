@@ -1,0 +1,91 @@
+-- What is proved of opening and settling; proofs/Claims.antt has the proof of each claim.
+use Prim.Native.Nat.{ℕ, _+_, _*_, _<_, _≤_}
+use mathlib.Core.Path.{_≡_}
+use mathlib.Core.Logic.{_⊎_}
+use mathlib.Core.List.{List, map, List·Memᴰ}
+use mathlib.Core.Bool.{false}
+use lib.ListN.{length, drop}
+use Rattle.words.specs.Lists.{sum}
+use Rattle.words.specs.Words.{Bytes, word64, entries}
+use Rattle.reading.specs.Block.{blockOf}
+use Rattle.assessment.specs.Assessment.{limit}
+use Rattle.ledger.specs.Ledger.{ledgerOf, ledgerWords, notALedger}
+use Rattle.ledger.specs.Opening.{openedLedger, OpeningAnswer, opening}
+use Rattle.settling.specs.Settling.{resultWords, assessedFile, settledLedger, SettlingAnswer, settling}
+use Rattle.year.specs.Year.{Call, GivenRow, givenBy, Year, newYear, afterCalls, sumOfPlant, largestOfPlant, accountByRows, rowsWithBonus}
+
+-- demand 3, of a year on an opening block
+pub record SumsHold (block : List ℕ) (y : Year) : Type 0 where
+  -- all charges given are all credits given plus the cents carried, word 4 of the ledger
+  pub closes : sum (λ g. g .charge) (y .given) ≡ sum (λ g. g .credit) (y .given) + word64 (y .ledger) 4
+  -- after a file with bonus the cents carried are fewer than its rows with bonus
+  pub rest : 0 < sum (λ g. g .bonus) (y .last) → word64 (y .ledger) 4 < rowsWithBonus (y .last)
+  -- no row given has a shortfall and a bonus
+  pub exclusive : (g : GivenRow) → List·Memᴰ g (y .given) → (g .shortfall ≡ 0) ⊎ (g .bonus ≡ 0)
+  -- no plant's charges exceed the limit of its largest commitment so far
+  pub limited : (i : ℕ) → List·Memᴰ i (blockOf block .ids)
+      → sumOfPlant i (λ g. g .charge) (y .given) ≤ limit (blockOf block .terms) (largestOfPlant i (y .given))
+  -- the accounts are those of the block in its order, each with its largest commitment and the sums of its own charges and credits
+  pub accounts : ledgerOf (y .ledger) .accounts ≡ map (accountByRows (y .given)) (blockOf block .ids)
+  -- every row given has an id of the block
+  pub known : (g : GivenRow) → List·Memᴰ g (y .given) → List·Memᴰ (g .id) (blockOf block .ids)
+
+-- The sums of a year, over every list of settling calls from a freshly opened ledger
+unfoldable pub SumsOfAYear : Type 0
+SumsOfAYear =
+    (block ledger : List ℕ) → Bytes block → opening block ledger .ground ≡ 0
+    → (calls : List Call) → SumsHold block (afterCalls (newYear (opening block ledger .ledger)) calls)
+
+-- Never locked out: after any such list the ledger is not refused on ground 6
+unfoldable pub NeverLockedOut : Type 0
+NeverLockedOut =
+    (block ledger : List ℕ) → Bytes block → opening block ledger .ground ≡ 0
+    → (calls : List Call) → notALedger (afterCalls (newYear (opening block ledger .ledger)) calls .ledger) ≡ false
+
+-- the first n words of a ledger or a result
+unfoldable pub wordsIn : ℕ → List ℕ → List ℕ
+wordsIn = entries 8 (λ b. word64 b 0)
+
+-- a buffer after words were written to it: each word read back is the number meant, and the bytes beyond are as they were
+pub record Holds (words before after : List ℕ) : Type 0 where
+  pub read-back : wordsIn (length words) after ≡ words
+  pub beyond : drop (8 * length words) after ≡ drop (8 * length words) before
+
+-- Read back, of opening: the ledger that an accepted call leaves
+unfoldable pub OpeningReadsBack : Type 0
+OpeningReadsBack =
+    (block ledger : List ℕ) → Bytes block → opening block ledger .ground ≡ 0 → Holds (ledgerWords (openedLedger block)) ledger (opening block ledger .ledger)
+
+-- what an accepted call of settling leaves
+pub record ReadsBack (ledger file result : List ℕ) (a : SettlingAnswer) : Type 0 where
+  pub ledger-holds : Holds (ledgerWords (settledLedger ledger file)) ledger (a .ledger)
+  pub result-holds : Holds (resultWords (assessedFile ledger file)) result (a .result)
+  -- result words 1, 2 and 4 are the sums of the row words read back
+  pub charges : word64 (a .result) 1 ≡ sum (λ g. g .charge) (givenBy file (a .result))
+  pub credits : word64 (a .result) 2 ≡ sum (λ g. g .credit) (givenBy file (a .result))
+  pub bonus : word64 (a .result) 4 ≡ sum (λ g. g .bonus) (givenBy file (a .result))
+
+-- Read back, of settling: for every call accepted on a ledger of bytes, a foreign one too
+unfoldable pub SettlingReadsBack : Type 0
+SettlingReadsBack =
+    (ledger file result : List ℕ) → Bytes ledger → settling ledger file result .ground ≡ 0 → ReadsBack ledger file result (settling ledger file result)
+
+-- what holds of every answer of opening: 0 or 1 to 5, a refusal changes no byte, the length never changes
+pub record OpeningAnswers (ledger : List ℕ) (a : OpeningAnswer) : Type 0 where
+  pub ground : a .ground ≤ 5
+  pub refused : 0 < a .ground → a .ledger ≡ ledger
+  pub length-kept : length (a .ledger) ≡ length ledger
+
+-- what holds of every answer of settling: 0 or 6 to 16, a refusal changes no byte, the lengths never change
+pub record SettlingAnswers (ledger result : List ℕ) (a : SettlingAnswer) : Type 0 where
+  pub ground : (a .ground ≡ 0) ⊎ ((6 ≤ a .ground) × (a .ground ≤ 16))
+  pub refused : 0 < a .ground → (a .ledger ≡ ledger) × (a .result ≡ result)
+  pub lengths-kept : (length (a .ledger) ≡ length ledger) × (length (a .result) ≡ length result)
+
+-- Refusals, for every block, ledger, file and result buffer
+unfoldable pub OpeningRefusals : Type 0
+OpeningRefusals = (block ledger : List ℕ) → OpeningAnswers ledger (opening block ledger)
+
+-- and of settling
+unfoldable pub SettlingRefusals : Type 0
+SettlingRefusals = (ledger file result : List ℕ) → SettlingAnswers ledger result (settling ledger file result)
