@@ -15,8 +15,8 @@ use mathlib.Core.Path.{_≡_, refl}
 use mathlib.Core.List.{[]}
 use Rattle.words.specs.Words.{bytesOf}
 use Rattle.ledger.specs.Opening.{opening}
-use Rattle.ledger.specs.Settling.{settling}
-use Rattle.ledger.proofs.Computing.{computing}
+use Rattle.settling.specs.Settling.{settling}
+use Rattle.settling.proofs.Computing.{computing}
 ";
 
 /// Bytes as the definitions make them of one number, its lowest byte first.
