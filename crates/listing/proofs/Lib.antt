@@ -1,2 +1,4 @@
 pub mod Computing
 pub mod Figures
+pub mod Placing
+pub mod Digits

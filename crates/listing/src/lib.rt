@@ -1,1 +1,3 @@
-// What npalist prints.
+// What npalist prints: lines built into a buffer.
+
+pub mod number;

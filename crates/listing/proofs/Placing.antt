@@ -1,0 +1,59 @@
+-- The laws of bytes placed in a buffer: nothing placed, one byte stored, bytes placed behind others, lengths.
+use Prim.Native.Nat.{ℕ, suc, _+_, _≤_, _<_}
+use mathlib.Core.Path.{_≡_, refl, sym, ap, ap₂, _∙_}
+use mathlib.Core.List.{List, [], _∷_, _++_, append-assoc, append-nil}
+use native.Mathlib.Numerals.{add-one}
+use native.Mathlib.Nat.{add-zero, add-assoc}
+use native.Mathlib.Omega.{arith}
+use lib.ListN.{length, take, drop, set, length-append, length-drop, take-append-drop}
+use lib.Seq.{length-take-le, take-at, drop-at, drop-drop, set-split, append-snoc}
+use Rattle.listing.specs.Lines.{placedAt}
+
+-- no bytes placed change nothing
+pub place-none : (at : ℕ) (b : List ℕ) → placedAt at [] b ≡ b
+unfolding placedAt
+place-none at b = rw (append-nil, add-zero) (take-append-drop at b)
+
+-- a byte stored at a place is placed there
+pub place-byte : (at v : ℕ) (b : List ℕ) → at < length b → set b at v ≡ placedAt at (v ∷ []) b
+unfolding placedAt
+place-byte at v b h = set-split b at v h ∙ sym (append-snoc (take at b) v (drop (suc at) b)) ∙ ap (λ k. take at b ++ (v ∷ []) ++ drop k b) (sym (add-one at))
+
+-- bytes placed where there is room keep the length
+pub length-placed : (at : ℕ) (bs b : List ℕ) → at + length bs ≤ length b → length (placedAt at bs b) ≡ length b
+unfolding placedAt
+length-placed at bs b h =
+    omega (
+      arith,
+      length-append (take at b ++ bs) (drop (at + length bs) b),
+      length-append (take at b) bs,
+      length-take-le at b (omega arith),
+      length-drop (at + length bs) b,
+    )
+
+-- bytes placed behind bytes that have just been placed
+pub place-more : (at : ℕ) (xs ys b : List ℕ) → at + length xs ≤ length b → placedAt (at + length xs) ys (placedAt at xs b) ≡ placedAt at (xs ++ ys) b
+unfolding placedAt
+place-more at xs ys b h =
+    let end = at + length xs in
+    let front : length (take at b ++ xs) ≡ end = omega (arith, length-append (take at b) xs, length-take-le at b (omega arith)) in
+    let far : end + length ys ≡ at + length (xs ++ ys) = omega (arith, length-append xs ys) in
+    ap₂ (λ p q. p ++ ys ++ q) (take-at (take at b ++ xs) (drop end b) end front)
+    (sym (drop-drop (length ys) end (take at b ++ xs ++ drop end b))
+    ∙ ap (drop (length ys)) (drop-at (take at b ++ xs) (drop end b) end front)
+    ∙ drop-drop (length ys) end b
+    ∙ ap (λ k. drop k b) far)
+    ∙ ap (λ p. p ++ drop (at + length (xs ++ ys)) b) (append-assoc (take at b) xs ys)
+
+-- two writers one after the other: the bytes of both, and the place behind them
+pub then-place : (at : ℕ) (xs ys b x y : List ℕ) (m n : ℕ) → at + length xs ≤ length b → x ≡ placedAt at xs b → m ≡ at + length xs
+    → y ≡ placedAt m ys x → n ≡ m + length ys → (y ≡ placedAt at (xs ++ ys) b) × (n ≡ at + length (xs ++ ys))
+then-place at xs ys b x y m n h e p f q = (
+  f ∙ ap₂ (λ k l. placedAt k ys l) p e ∙ place-more at xs ys b h,
+  omega (arith, length-append xs ys),
+)
+
+-- what is left to place, once its first part is placed
+pub place-rest : (at : ℕ) (xs ys b x goal : List ℕ) (m : ℕ) → at + length xs ≤ length b → x ≡ placedAt at xs b → m ≡ at + length xs
+    → placedAt at (xs ++ ys) b ≡ goal → placedAt m ys x ≡ goal
+place-rest at xs ys b x goal m h e p left = ap₂ (λ k l. placedAt k ys l) p e ∙ place-more at xs ys b h ∙ left
