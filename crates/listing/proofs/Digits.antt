@@ -1,14 +1,15 @@
 -- The laws of decimal digits: how many there are, the last of them, and those before it.
-use Prim.Native.Nat.{ℕ, zero, suc, _+_, _/_, _%_, _^_, _≤_, _<_}
+use Prim.Native.Nat.{ℕ, zero, suc, _+_, _-_, _/_, _%_, _^_, _≤_, _<_}
 use mathlib.Core.Path.{_≡_, refl, sym, ap, _∙_}
 use mathlib.Core.List.{List, [], _∷_, _++_}
 use mathlib.Core.Bool.{Bool, true, false, cond}
 use native.Mathlib.Nat.{mod-eq-of-lt}
 use native.Mathlib.Omega.{arith}
-use lib.ListN.{length, length-append}
+use lib.ListN.{length, set, length-append}
 use lib.Dec.{ltb}
 use borrow.Author.Tests.{lt-ltb, le-ltb, ltb-true, ltb-false}
-use Rattle.listing.specs.Lines.{digits, decimal}
+use Rattle.listing.specs.Lines.{digits, decimal, placedAt}
+use Rattle.listing.proofs.Placing.{place-byte, place-last}
 
 -- a number below ten is its own last digit
 pub one-digit : (n v : ℕ) → v < 10 → digits (suc n) v ≡ (48 + v) ∷ []
@@ -58,3 +59,18 @@ decimal-most v = digits-most 20 v
 -- a larger number has one digit more than its tenth
 pub decimal-longer : (v : ℕ) → v < 2 ^ 64 → 10 ≤ v → length (decimal v) ≡ length (decimal (v / 10)) + 1
 decimal-longer v fits h = ap length (decimal-more v fits h) ∙ length-append (decimal (v / 10)) ((48 + v % 10) ∷ [])
+
+-- one turn of writing a number from its last digit on: what is left to write are the digits of its tenth
+pub digit-turn : (at i v d : ℕ) (b goal : List ℕ) → placedAt at (decimal v) b ≡ goal → i ≡ at + length (decimal v) → v < 2 ^ 64 → 10 ≤ v
+    → at + length (decimal v) ≤ length b → d ≡ 48 + v % 10 → placedAt at (decimal (v / 10)) (set b (i - 1) d) ≡ goal
+digit-turn at i v d b goal left e fits h room q =
+    let longer = decimal-longer v fits h in
+    place-last at (i - 1) d (decimal (v / 10)) b (omega arith) (omega arith)
+    ∙ ap (λ x. placedAt at (decimal (v / 10) ++ x ∷ []) b) q
+    ∙ ap (λ ds. placedAt at ds b) (sym (decimal-more v fits h))
+    ∙ left
+
+-- the first digit, with nothing in front of it
+pub digit-first : (at v d : ℕ) (b goal : List ℕ) → placedAt at (decimal v) b ≡ goal → v < 10 → at < length b → d ≡ 48 + v → set b at d ≡ goal
+digit-first at v d b goal left h room q =
+    place-byte at d b room ∙ ap (λ x. placedAt at (x ∷ []) b) q ∙ ap (λ ds. placedAt at ds b) (sym (decimal-one v h)) ∙ left

@@ -6,7 +6,7 @@ use native.Mathlib.Numerals.{add-one}
 use native.Mathlib.Nat.{add-zero, add-assoc}
 use native.Mathlib.Omega.{arith}
 use lib.ListN.{length, take, drop, set, length-append, length-drop, take-append-drop}
-use lib.Seq.{length-take-le, take-at, drop-at, drop-drop, set-split, append-snoc}
+use lib.Seq.{length-take-le, take-at, drop-at, drop-drop, set-split, take-set-le, append-snoc}
 use Rattle.listing.specs.Lines.{placedAt}
 
 -- no bytes placed change nothing
@@ -57,3 +57,14 @@ then-place at xs ys b x y m n h e p f q = (
 pub place-rest : (at : ℕ) (xs ys b x goal : List ℕ) (m : ℕ) → at + length xs ≤ length b → x ≡ placedAt at xs b → m ≡ at + length xs
     → placedAt at (xs ++ ys) b ≡ goal → placedAt m ys x ≡ goal
 place-rest at xs ys b x goal m h e p left = ap₂ (λ k l. placedAt k ys l) p e ∙ place-more at xs ys b h ∙ left
+
+-- bytes placed in front of a byte that has been stored
+pub place-last : (at i d : ℕ) (xs b : List ℕ) → i ≡ at + length xs → i < length b → placedAt at xs (set b i d) ≡ placedAt at (xs ++ d ∷ []) b
+unfolding placedAt
+place-last at i d xs b e h =
+    let front : length (take i b) ≡ i = length-take-le i b (omega arith) in
+    let far : suc i ≡ at + length (xs ++ d ∷ []) = omega (arith, length-append xs (d ∷ [])) in
+    ap₂ (λ p q. p ++ xs ++ q) (take-set-le at b i d (omega arith))
+    (ap (λ k. drop k (set b i d)) (sym e) ∙ ap (drop i) (set-split b i d h) ∙ drop-at (take i b) (d ∷ drop (suc i) b) i front)
+    ∙ sym (append-snoc (take at b ++ xs) d (drop (suc i) b))
+    ∙ ap₂ (λ p k. p ++ drop k b) (append-assoc (take at b) xs (d ∷ [])) far

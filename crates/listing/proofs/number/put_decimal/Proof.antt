@@ -1,63 +1,67 @@
+-- `listing::number::put_decimal` meets its contract. What is left to write are the digits of what is left of the number.
+use Prim.Native.Nat.{_+_, _≤_}
+use mathlib.Core.Path.{_≡_, refl}
+use native.Mathlib.Omega.{arith}
+use borrow.Author.Needs.{needs}
+use lib.ListN.{length, length-set}
+use Rattle.listing.specs.Lines.{decimal, placedAt}
+use Rattle.listing.proofs.Digits.{decimal-longer, decimal-most, digit-turn, digit-first}
 use Rattle.listing.proofs.number.put_decimal.Statement.{statement}
 use Rattle.listing.proofs.number.put_decimal.Tie as tie
-use Rattle.listing.proofs.number.put_decimal.Reads as reads
-use Rattle.listing.proofs.number.put_decimal.Lts as lts
-use Rattle.listing.proofs.number.digit.Reads as digit-reads
-use Rattle.listing.proofs.number.digit_count.Reads as digit-count-reads
 
 abbrev Inv-loop : tie.InvT-loop
-Inv-loop out₀ at v end i₀ rest₀ out i rest = ?
+Inv-loop out₀ at v end i₀ rest₀ out i rest =
+    (placedAt at (decimal rest) out ≡ placedAt at (decimal v) out₀) × (i ≡ at + length (decimal rest)) × (rest ≤ v) × (length out ≡ length out₀)
 
 abbrev μ-loop : tie.MeasureT-loop
-μ-loop out₀ at v end i₀ rest₀ out i rest = ?
+μ-loop out₀ at v end i₀ rest₀ out i rest = rest
 
--- src/number.rt:39:20
 digit-count-requires : tie.Need-digit-count-requires Inv-loop μ-loop
-digit-count-requires c κs = ?
+digit-count-requires c κs = search needs
 
--- src/number.rt:39:15
 add-end : tie.Need-add-end Inv-loop μ-loop
-add-end c = ?
+add-end c = search needs
 
--- src/number.rt:42:5
 loop-holds : tie.Need-loop-holds Inv-loop μ-loop
-loop-holds c = ?
+loop-holds c = (refl, omega arith, omega arith, refl)
 
--- src/number.rt:43:9
 sub-i : tie.Need-sub-i Inv-loop μ-loop
-sub-i c = ?
+sub-i c = omega (arith, decimal-longer (c .before .loop .rest) (omega arith) (omega arith))
 
--- src/number.rt:44:18
 digit-requires : tie.Need-digit-requires Inv-loop μ-loop
-digit-requires c κs = ?
+digit-requires c κs = omega arith
 
--- src/number.rt:44:9
 slice-write-out : tie.Need-slice-write-out Inv-loop μ-loop
-slice-write-out c = ?
+slice-write-out c = omega (arith, decimal-most (c .before .before .loop .rest), decimal-longer (c .before .before .loop .rest) (omega arith) (omega arith))
 
--- src/number.rt:42:5
 loop-less : tie.Need-loop-less Inv-loop μ-loop
-loop-less c = ?
+loop-less c = omega arith
 
--- src/number.rt:42:5
 loop-again : tie.Need-loop-again Inv-loop μ-loop
-loop-again c = ?
+loop-again c =
+    let l = c .before .before in
+    let longer = decimal-longer (l .loop .rest) (omega arith) (omega arith) in
+    let most = decimal-most (l .loop .rest) in (
+      digit-turn _ _ _ _ _ _ (l .loop .inv .0) (l .loop .inv .1) (omega arith) (omega arith) (omega arith) (c .digit .ensures),
+      omega arith,
+      omega arith,
+      simp length-set (omega arith),
+    )
 
--- src/number.rt:47:15
 digit-requires-2 : tie.Need-digit-requires-2 Inv-loop μ-loop
-digit-requires-2 c κs = ?
+digit-requires-2 c κs = omega arith
 
--- src/number.rt:47:5
 slice-write-out-2 : tie.Need-slice-write-out-2 Inv-loop μ-loop
-slice-write-out-2 c = ?
+slice-write-out-2 c = omega arith
 
--- src/number.rt:33:1
 same-length : tie.Need-same-length Inv-loop μ-loop
-same-length c = ?
+same-length c = simp length-set (omega arith)
 
--- src/number.rt:33:1
 returns : tie.Need-returns Inv-loop μ-loop
-returns c = ?
+returns c = (
+  digit-first _ _ _ _ _ (c .before .before .loop .inv .0) (omega arith) (omega arith) (c .digit2 .ensures),
+  (omega arith, omega arith),
+)
 
 pub put-decimal-spec : {M : Type 1} → statement M
 put-decimal-spec =
