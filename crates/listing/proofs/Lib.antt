@@ -2,3 +2,4 @@ pub mod Computing
 pub mod Figures
 pub mod Placing
 pub mod Digits
+pub mod LineLaws

@@ -5,8 +5,8 @@ use mathlib.Core.List.{List, [], _∷_, _++_, append-assoc, append-nil}
 use native.Mathlib.Numerals.{add-one}
 use native.Mathlib.Nat.{add-zero, add-assoc}
 use native.Mathlib.Omega.{arith}
-use lib.ListN.{length, take, drop, set, length-append, length-drop, take-append-drop}
-use lib.Seq.{length-take-le, take-at, drop-at, drop-drop, set-split, take-set-le, append-snoc}
+use lib.ListN.{length, take, drop, getD, set, length-append, length-drop, take-append-drop, drop-of-length-le}
+use lib.Seq.{length-take-le, take-at, drop-at, drop-drop, drop-cons, set-split, take-set-le, append-snoc}
 use Rattle.listing.specs.Lines.{placedAt}
 
 -- no bytes placed change nothing
@@ -68,3 +68,17 @@ place-last at i d xs b e h =
     (ap (λ k. drop k (set b i d)) (sym e) ∙ ap (drop i) (set-split b i d h) ∙ drop-at (take i b) (d ∷ drop (suc i) b) i front)
     ∙ sym (append-snoc (take at b ++ xs) d (drop (suc i) b))
     ∙ ap₂ (λ p k. p ++ drop k b) (append-assoc (take at b) xs (d ∷ [])) far
+
+-- one turn of copying a text, byte by byte
+pub copy-turn : (at i : ℕ) (s b goal : List ℕ) → placedAt (at + i) (drop i s) b ≡ goal → i < length s → at + i < length b
+    → placedAt (at + (i + 1)) (drop (i + 1) s) (set b (at + i) (getD s i 0)) ≡ goal
+copy-turn at i s b goal left more room =
+    let x = getD s i 0 in
+    let next : at + suc i ≡ at + i + 1 = omega arith in
+    rw add-one
+    (place-rest (at + i) (x ∷ []) (drop (suc i) s) b (set b (at + i) x) goal (at + suc i) (omega arith) (place-byte (at + i) x b room) next
+    (ap (λ l. placedAt (at + i) l b) (sym (drop-cons s i 0 more)) ∙ left))
+
+-- where all of it is copied, nothing is left
+pub copy-all : (at i : ℕ) (s b goal : List ℕ) → placedAt (at + i) (drop i s) b ≡ goal → length s ≤ i → b ≡ goal
+copy-all at i s b goal left h = sym (place-none (at + i) b) ∙ ap (λ l. placedAt (at + i) l b) (sym (drop-of-length-le s h)) ∙ left
