@@ -2,9 +2,9 @@
 use Prim.Native.Nat.{ℕ}
 use Rattle.ledger.specs.Claims.{wordsIn}
 use Rattle.ledger.proofs.Computing.{computing as ledger-computing}
-use Rattle.listing.specs.Lines.{text, digits, decimal, line, heading, refusedLine, cutLine}
+use Rattle.listing.specs.Lines.{text, digits, decimal, line, heading, refusedLine, cutLine, placedAt}
 use Rattle.listing.specs.Npalist.{nextBlock, rowLines, poolLine, intervalLines, ledgerBuffer, resultBuffer, intervals, afterOpening, blocks, npalist}
 
 unfoldable pub computing : ℕ
-unfolding ledger-computing wordsIn text digits decimal line heading refusedLine cutLine nextBlock rowLines poolLine intervalLines ledgerBuffer resultBuffer intervals afterOpening blocks npalist
+unfolding ledger-computing wordsIn text digits decimal line heading refusedLine cutLine placedAt nextBlock rowLines poolLine intervalLines ledgerBuffer resultBuffer intervals afterOpening blocks npalist
 computing = 0

@@ -82,3 +82,11 @@ copy-turn at i s b goal left more room =
 -- where all of it is copied, nothing is left
 pub copy-all : (at i : ℕ) (s b goal : List ℕ) → placedAt (at + i) (drop i s) b ≡ goal → length s ≤ i → b ≡ goal
 copy-all at i s b goal left h = sym (place-none (at + i) b) ∙ ap (λ l. placedAt (at + i) l b) (sym (drop-of-length-le s h)) ∙ left
+
+-- three writers one after the other
+pub three-placed : (at : ℕ) (xs ys zs b x y z : List ℕ) (k m n : ℕ) → at + length xs + length ys ≤ length b → length x ≡ length b
+    → x ≡ placedAt at xs b → k ≡ at + length xs → y ≡ placedAt k ys x → m ≡ k + length ys → z ≡ placedAt m zs y → n ≡ m + length zs
+    → (z ≡ placedAt at (xs ++ (ys ++ zs)) b) × (n ≡ at + length (xs ++ (ys ++ zs)))
+three-placed at xs ys zs b x y z k m n room kept e p f q g r =
+    let later = then-place k ys zs x y z m n (omega arith) f q g r in
+    then-place at xs (ys ++ zs) b x z k n (omega arith) e p (later .0) (later .1)

@@ -1,30 +1,30 @@
+-- `listing::lines::put_cut` meets its contract. The block stands behind the word.
+use native.Mathlib.Omega.{arith}
 use borrow.Author.Needs.{needs}
+use Rattle.listing.specs.Lines.{text, cutLine}
+use Rattle.listing.proofs.Placing.{then-place}
 use Rattle.listing.proofs.lines.put_cut.Statement.{statement}
 use Rattle.listing.proofs.lines.put_cut.Tie as tie
-use Rattle.listing.proofs.lines.put_cut.Reads as reads
-use Rattle.listing.proofs.lines.put_cut.Lts as lts
-use Rattle.listing.proofs.lines.put_last.Reads as put-last-reads
-use Rattle.listing.proofs.lines.put_text.Reads as put-text-reads
 
--- src/lines.rt:91:35
 slice-aggregate-put-text : tie.Need-slice-aggregate-put-text
 slice-aggregate-put-text c = search needs
 
--- src/lines.rt:91:9
 put-text-requires : tie.Need-put-text-requires
 put-text-requires c κs = search needs
 
--- src/lines.rt:92:5
 put-last-requires : tie.Need-put-last-requires
 put-last-requires c κs = search needs
 
--- src/lines.rt:85:1
 same-length : tie.Need-same-length
 same-length c = search needs
 
--- src/lines.rt:85:1
 returns : tie.Need-returns
-returns c = ?
+unfolding cutLine text
+returns c =
+    let last = c .before .before in
+    let first = last .before .before .before .before in
+    let both = then-place _ _ _ _ _ _ _ _ (omega arith) (first .put-text .ensures .0) (first .put-text .ensures .1) (last .put-last .ensures .0) (last .put-last .ensures .1 .0) in
+    (both .0, (both .1, omega arith))
 
 pub put-cut-spec : {M : Type 1} → statement M
 put-cut-spec =
