@@ -1,5 +1,7 @@
 // One case each: a row and the points behind it as bytes, or plain numbers, through the code, and what it gives printed.
 
+use crate::layout::Header;
+use crate::layout::Row;
 use crate::layout::put_words;
 use crate::print::figure;
 use crate::print::six;
@@ -105,7 +107,7 @@ pub fn sides(file: &[u8]) -> Sides {
 }
 
 // Prints the scheduled kW of a row.
-pub fn show_scheduled(label: &[u8], row: [u64; 14], points: &[u64])
+pub fn show_scheduled(label: &[u8], row: Row, points: &[u64])
     requires { ⌜ length (now label) ≤ 64 ⌝ }
     requires { ⌜ length (now points) ≤ 20 ⌝ }
 {
@@ -116,7 +118,7 @@ pub fn show_scheduled(label: &[u8], row: [u64; 14], points: &[u64])
 }
 
 // Prints whether a row is considered.
-pub fn show_considered(label: &[u8], row: [u64; 14], points: &[u64])
+pub fn show_considered(label: &[u8], row: Row, points: &[u64])
     requires { ⌜ length (now label) ≤ 64 ⌝ }
     requires { ⌜ length (now points) ≤ 20 ⌝ }
 {
@@ -127,13 +129,7 @@ pub fn show_considered(label: &[u8], row: [u64; 14], points: &[u64])
 }
 
 // Prints the six figures of a row at a ratio.
-pub fn show_figures(
-    label: &[u8],
-    row: [u64; 14],
-    points: &[u64],
-    upper: Kilowatts,
-    lower: Kilowatts,
-)
+pub fn show_figures(label: &[u8], row: Row, points: &[u64], upper: Kilowatts, lower: Kilowatts)
     requires { ⌜ length (now label) ≤ 64 ⌝ }
     requires { ⌜ length (now points) ≤ 20 ⌝ }
 {
@@ -144,7 +140,7 @@ pub fn show_figures(
 }
 
 // Prints whether ground 13 applies to a row.
-pub fn show_row_outside(label: &[u8], row: [u64; 14])
+pub fn show_row_outside(label: &[u8], row: Row)
     requires { ⌜ length (now label) ≤ 64 ⌝ }
 {
     let mut case = [0u8; 56];
@@ -153,7 +149,7 @@ pub fn show_row_outside(label: &[u8], row: [u64; 14])
 }
 
 // Prints whether ground 9 applies to a header.
-pub fn show_header_outside(label: &[u8], header: [u64; 10])
+pub fn show_header_outside(label: &[u8], header: Header)
     requires { ⌜ length (now label) ≤ 64 ⌝ }
 {
     let mut file = [0u8; 40];

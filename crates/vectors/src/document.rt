@@ -10,6 +10,8 @@ use crate::cases::show_portion;
 use crate::cases::show_scheduled;
 use crate::cases::show_share;
 use crate::cases::sides;
+use crate::layout::Header;
+use crate::layout::Row;
 use crate::layout::put_words;
 use crate::print::figure;
 use assessment::rules::share;
@@ -24,8 +26,8 @@ const BELOW_ZERO: [u64; 4] = [0x1_0000_0000 - 300, 0, 0x1_0000_0000 - 293, 10];
 
 const PRD: [u64; 4] = [500, 0, 2000, 3000];
 
-// Rows of the listing: id, kind, committed, owned, metered, adjustment, planned, forced, maximum, minimum, online, LMP, first point, points.
-const ROW_11: [u64; 14] = [
+// Rows of the listing.
+const ROW_11: Row = [
     11,
     0,
     100000,
@@ -42,7 +44,7 @@ const ROW_11: [u64; 14] = [
     2,
 ];
 
-const ROW_12: [u64; 14] = [
+const ROW_12: Row = [
     12,
     0,
     50000,
@@ -59,25 +61,25 @@ const ROW_12: [u64; 14] = [
     2,
 ];
 
-const ROW_13: [u64; 14] = [13, 4, 0, 40000, 35000, 0, 0, 0, 40000, 0, 1, 3000, 4, 2];
+const ROW_13: Row = [13, 4, 0, 40000, 35000, 0, 0, 0, 40000, 0, 1, 3000, 4, 2];
 
-const ROW_14: [u64; 14] = [14, 1, 5000, 0, 15001, 0, 0, 0, 0, 0, 0, 0, 0, 0];
+const ROW_14: Row = [14, 1, 5000, 0, 15001, 0, 0, 0, 0, 0, 0, 0, 0, 0];
 
 const POINTS_12: [u64; 4] = [1000, 10000, 6000, 50000];
 
 const POINTS_13: [u64; 4] = [0, 0, 4000, 40000];
 
 // A row on curve A, with its limits.
-fn on_a(online: u64, lmp: u64) -> [u64; 14] {
+fn on_a(online: u64, lmp: u64) -> Row {
     [11, 0, 0, 0, 0, 0, 0, 0, 110000, 20000, online, lmp, 0, 2]
 }
 
-fn prd(lmp: u64) -> [u64; 14] {
+fn prd(lmp: u64) -> Row {
     [14, 3, 0, 0, 0, 0, 0, 0, 0, 0, 0, lmp, 0, 2]
 }
 
 // A header of an interval of a year of 365 days.
-fn header(interval: u64) -> [u64; 10] {
+fn header(interval: u64) -> Header {
     [1, interval, 30000, 365, 0, 0, 1, 40, 0, 40]
 }
 

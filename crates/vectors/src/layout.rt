@@ -6,6 +6,12 @@ ghost use lib.ListN.{length};
 ghost use Rattle.words.specs.Words.{bytesOf, bytesOfWords};
 ghost use Rattle.listing.specs.Lines.{placedAt};
 
+// The words of a row: id, kind, committed, owned, metered, adjustment, planned, forced, maximum, minimum, online, LMP, first point, points.
+pub type Row = [u64; 14];
+
+// The words of a header: format, interval, Net CONE, days, region-wide, imports, rows, their offset, points, their offset.
+pub type Header = [u64; 10];
+
 // Writes a word of 32 bits.
 fn put_word(out: &mut [u8], at: usize, w: u64)
     requires { ⌜ at + 4 ≤ length (now out) ⌝ }

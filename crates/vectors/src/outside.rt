@@ -10,12 +10,14 @@ use crate::cases::show_row_outside;
 use crate::cases::show_scheduled;
 use crate::cases::show_share;
 use crate::cases::sides;
+use crate::layout::Header;
+use crate::layout::Row;
 use crate::layout::put_words;
 use assessment::sums::Sides;
 use assessment::units::Kilowatts;
 
 // A row that could run for 1000 MW and was scheduled below what it gave.
-const ECONOMIC: [u64; 14] = [
+const ECONOMIC: Row = [
     1,
     0,
     1000000,
@@ -35,28 +37,28 @@ const ECONOMIC: [u64; 14] = [
 const ECONOMIC_POINTS: [u64; 4] = [1000, 0, 5000, 1000000];
 
 // A row beside it, which makes the ratio 700000.
-const BESIDE: [u64; 14] = [2, 4, 0, 200000, 150000, 0, 0, 0, 200000, 0, 1, 3000, 2, 1];
+const BESIDE: Row = [2, 4, 0, 200000, 150000, 0, 0, 0, 200000, 0, 1, 3000, 2, 1];
 
 const BESIDE_POINT: [u64; 2] = [0, 200000];
 
 // A solar row at night.
-const SOLAR: [u64; 14] = [1, 0, 5000, 5000, 0, 0, 0, 0, 0, 0, 0, 3000, 0, 1];
+const SOLAR: Row = [1, 0, 5000, 5000, 0, 0, 0, 0, 0, 0, 0, 3000, 0, 1];
 
 const SOLAR_POINT: [u64; 2] = [0, 0];
 
 const CURVE: [u64; 4] = [1000, 10000, 6000, 50000];
 
 // A row on a curve from 1000 to 6000 cents.
-fn on_curve(online: u64, lmp: u64) -> [u64; 14] {
+fn on_curve(online: u64, lmp: u64) -> Row {
     [12, 0, 0, 0, 0, 0, 0, 0, 25000, 10000, online, lmp, 0, 2]
 }
 
 // A header of an interval of a year of 366 days.
-fn header(interval: u64) -> [u64; 10] {
+fn header(interval: u64) -> Header {
     [1, interval, 27955, 366, 0, 0, 1, 40, 0, 40]
 }
 
-fn row_at(lmp: u64) -> [u64; 14] {
+fn row_at(lmp: u64) -> Row {
     [1, 0, 0, 0, 0, 0, 0, 0, 0, 0, 0, lmp, 0, 0]
 }
 
