@@ -1,1 +1,4 @@
-// What npalist prints.
+// What npalist prints: lines built into a buffer.
+
+pub mod lines;
+pub mod number;

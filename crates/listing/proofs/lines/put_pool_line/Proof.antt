@@ -1,0 +1,50 @@
+-- `listing::lines::put_pool_line` meets its contract. The word, the interval and the four words stand one behind the other.
+use native.Mathlib.Omega.{arith}
+use borrow.Author.Needs.{needs}
+use Rattle.words.specs.Words.{entries}
+use Rattle.year.specs.Claims.{wordsIn}
+use Rattle.listing.specs.Lines.{text, line}
+use Rattle.listing.specs.Npalist.{poolLine}
+use Rattle.listing.proofs.Placing.{three-placed}
+use Rattle.listing.proofs.lines.put_pool_line.Statement.{statement}
+use Rattle.listing.proofs.lines.put_pool_line.Tie as tie
+
+slice-aggregate-put-text : tie.Need-slice-aggregate-put-text
+slice-aggregate-put-text c = search needs
+
+put-text-requires : tie.Need-put-text-requires
+put-text-requires c κs = search needs
+
+put-field-requires : tie.Need-put-field-requires
+put-field-requires c κs = search needs
+
+put-words-requires : tie.Need-put-words-requires
+put-words-requires c κs = search needs
+
+same-length : tie.Need-same-length
+same-length c = search needs
+
+returns : tie.Need-returns
+unfolding poolLine wordsIn entries line text
+returns c =
+    let last = c .before .before in
+    let second = last .before .before .before .before in
+    let first = second .before .before .before .before in
+    let all =
+    three-placed _ _ _ _ _ _ _ _ _ _ _ (omega arith) (omega arith)
+    (first .put-text .ensures .0) (first .put-text .ensures .1)
+    (second .put-field .ensures .0) (second .put-field .ensures .1 .0)
+    (last .put-words .ensures .0) (last .put-words .ensures .1 .0)
+    in
+    (all .0, (all .1, omega arith))
+
+pub put-pool-line-spec : {M : Type 1} → statement M
+put-pool-line-spec =
+    tie.close
+    (tie.spec
+    slice-aggregate-put-text
+    put-text-requires
+    put-field-requires
+    put-words-requires
+    same-length
+    returns)

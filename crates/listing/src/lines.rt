@@ -1,0 +1,139 @@
+// The lines of a listing, each written into a buffer at a place. A function answers the place behind what it wrote.
+
+use crate::number::put_decimal;
+use words::word64;
+ghost use mathlib.Core.Path.{_≡_};
+ghost use mathlib.Core.List.{_∷_, [], _++_};
+ghost use Prim.Native.Nat.{_+_, _*_, _≤_, _<_};
+ghost use lib.ListN.{length};
+ghost use Rattle.year.specs.Claims.{wordsIn};
+ghost use Rattle.listing.specs.Lines.{text, decimal, line, heading, refusedLine, cutLine, placedAt};
+ghost use Rattle.listing.specs.Npalist.{poolLine};
+
+// The heading, for every program that prints lines.
+pub const HEADING: [u8; 74] =
+    *b"interval,id,expected,actual,outage,economic,shortfall,bonus,charge,credit\n";
+
+// Writes a byte.
+pub fn put_byte(out: &mut [u8], at: usize, byte: u8) -> usize
+    requires { ⌜ at < length (now out) ⌝ }
+    ensures { λ _. ⌜ now (out .exit) ≡ placedAt at (byte ∷ []) (now (out .entry)) ⌝ }
+    ensures { λ r. ⌜ r ≡ at + 1 ⌝ }
+{
+    out[at] = byte;
+    at + 1
+}
+
+// Writes bytes as they are.
+pub fn put_text(out: &mut [u8], at: usize, bytes: &[u8]) -> usize
+    requires { ⌜ at + length (now bytes) ≤ length (now out) ⌝ }
+    ensures { λ _. ⌜ now (out .exit) ≡ placedAt at (now (bytes .entry)) (now (out .entry)) ⌝ }
+    ensures { λ r. ⌜ r ≡ at + length (now (bytes .entry)) ⌝ }
+{
+    let mut i = 0;
+    while i < bytes.len() {
+        out[at + i] = bytes[i];
+        i += 1;
+    }
+    at + i
+}
+
+// Writes the heading.
+pub fn put_heading(out: &mut [u8], at: usize) -> usize
+    requires { ⌜ at + 74 ≤ length (now out) ⌝ }
+    ensures { λ _. ⌜ now (out .exit) ≡ placedAt at heading (now (out .entry)) ⌝ }
+    ensures { λ r. ⌜ r ≡ at + length heading ⌝ }
+    ensures { λ r. ⌜ r ≡ at + 74 ⌝ }
+{
+    put_text(out, at, &HEADING)
+}
+
+// Writes a number and a comma.
+pub fn put_field(out: &mut [u8], at: usize, v: u64) -> usize
+    requires { ⌜ at + 21 ≤ length (now out) ⌝ }
+    ensures { λ _. ⌜ now (out .exit) ≡ placedAt at (decimal v ++ text ",") (now (out .entry)) ⌝ }
+    ensures { λ r. ⌜ r ≡ at + length (decimal v ++ text ",") ⌝ }
+    ensures { λ r. ⌜ r ≤ at + 21 ⌝ }
+{
+    let end = put_decimal(out, at, v);
+    put_byte(out, end, b',')
+}
+
+// Writes the last number of a line and a newline.
+pub fn put_last(out: &mut [u8], at: usize, v: u64) -> usize
+    requires { ⌜ at + 21 ≤ length (now out) ⌝ }
+    ensures { λ _. ⌜ now (out .exit) ≡ placedAt at (line (v ∷ [])) (now (out .entry)) ⌝ }
+    ensures { λ r. ⌜ r ≡ at + length (line (v ∷ [])) ⌝ }
+    ensures { λ r. ⌜ r ≤ at + 21 ⌝ }
+{
+    let end = put_decimal(out, at, v);
+    put_byte(out, end, b'\n')
+}
+
+// Writes the line of a refused block.
+pub fn put_refused(out: &mut [u8], at: usize, block: u64, ground: u64) -> usize
+    requires { ⌜ at + 50 ≤ length (now out) ⌝ }
+    ensures { λ _. ⌜ now (out .exit) ≡ placedAt at (refusedLine block ground) (now (out .entry)) ⌝ }
+    ensures { λ r. ⌜ r ≡ at + length (refusedLine block ground) ⌝ }
+    ensures { λ r. ⌜ r ≤ at + 50 ⌝ }
+{
+    let first = put_text(out, at, b"refused,");
+    let second = put_field(out, first, block);
+    put_last(out, second, ground)
+}
+
+// Writes the line of a stream that ends before the opening, or inside a length or a block.
+pub fn put_cut(out: &mut [u8], at: usize, block: u64) -> usize
+    requires { ⌜ at + 25 ≤ length (now out) ⌝ }
+    ensures { λ _. ⌜ now (out .exit) ≡ placedAt at (cutLine block) (now (out .entry)) ⌝ }
+    ensures { λ r. ⌜ r ≡ at + length (cutLine block) ⌝ }
+    ensures { λ r. ⌜ r ≤ at + 25 ⌝ }
+{
+    let first = put_text(out, at, b"cut,");
+    put_last(out, first, block)
+}
+
+// Writes the first n words of a ledger, a result or a part of one, and a newline.
+pub fn put_words(out: &mut [u8], at: usize, b: &[u8], n: usize) -> usize
+    requires { ⌜ 0 < n ⌝ }
+    requires { ⌜ 8 * n ≤ length (now b) ⌝ }
+    requires { ⌜ at + 21 * n ≤ length (now out) ⌝ }
+    ensures { λ _. ⌜ now (out .exit) ≡ placedAt at (line (wordsIn n (now (b .entry)))) (now (out .entry)) ⌝ }
+    ensures { λ r. ⌜ r ≡ at + length (line (wordsIn n (now (b .entry)))) ⌝ }
+    ensures { λ r. ⌜ r ≤ at + 21 * n ⌝ }
+{
+    let last = n - 1;
+    let mut to = at;
+    let mut i = 0;
+    while i < last {
+        to = put_field(out, to, word64(b, 8 * i));
+        i += 1;
+    }
+    put_last(out, to, word64(b, 8 * i))
+}
+
+// Writes the line of a row: interval, id and the row's eight words, which begin at the front of a part of a result.
+pub fn put_row_line(out: &mut [u8], at: usize, interval: u64, id: u64, row: &[u8]) -> usize
+    requires { ⌜ 64 ≤ length (now row) ⌝ }
+    requires { ⌜ at + 210 ≤ length (now out) ⌝ }
+    ensures { λ _. ⌜ now (out .exit) ≡ placedAt at (line (interval ∷ id ∷ wordsIn 8 (now (row .entry)))) (now (out .entry)) ⌝ }
+    ensures { λ r. ⌜ r ≡ at + length (line (interval ∷ id ∷ wordsIn 8 (now (row .entry)))) ⌝ }
+    ensures { λ r. ⌜ r ≤ at + 210 ⌝ }
+{
+    let first = put_field(out, at, interval);
+    let second = put_field(out, first, id);
+    put_words(out, second, row, 8)
+}
+
+// Writes the pool line of an interval: interval, ratio, charges, credits, carried.
+pub fn put_pool_line(out: &mut [u8], at: usize, interval: u64, result: &[u8]) -> usize
+    requires { ⌜ 32 ≤ length (now result) ⌝ }
+    requires { ⌜ at + 110 ≤ length (now out) ⌝ }
+    ensures { λ _. ⌜ now (out .exit) ≡ placedAt at (poolLine interval (now (result .entry))) (now (out .entry)) ⌝ }
+    ensures { λ r. ⌜ r ≡ at + length (poolLine interval (now (result .entry))) ⌝ }
+    ensures { λ r. ⌜ r ≤ at + 110 ⌝ }
+{
+    let first = put_text(out, at, b"pool,");
+    let second = put_field(out, first, interval);
+    put_words(out, second, result, 4)
+}
