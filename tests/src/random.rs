@@ -377,6 +377,20 @@ impl World {
         file
     }
 
+    /// A valid file with a row for every id, each with a curve of its own of so many points.
+    pub fn full_file(&self, rng: &mut Rng, interval: u32, row_points: usize) -> IntervalFile {
+        let (mut rows, mut points) = (Vec::new(), Vec::new());
+        for id in &self.ids {
+            let first = points.len();
+            points.extend(self.curve(rng, row_points));
+            let curve = (first, row_points);
+            let mut row = self.row(rng, *id, &[0, 0, 0, 1, 2, 3, 4], &points, &[curve]);
+            (row.first, row.count) = (first as u32, row_points as u32);
+            rows.push(row.words());
+        }
+        IntervalFile::new(self.net_cone, self.days, interval, rows, points)
+    }
+
     /// Net imports, of either sign.
     fn imports(&self, rng: &mut Rng, rows: usize) -> i32 {
         let span = i64::from(self.scale)
