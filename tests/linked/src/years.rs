@@ -87,3 +87,43 @@ fn settle(
     added.map_err(|what| format!("{place}: {what}"))?;
     Ok(true)
 }
+
+#[cfg(test)]
+mod tests {
+    use super::*;
+    use crate::compare::{Function, Pair};
+    use npa_tests::layout::{long_at, put_longs};
+    use npa_tests::reference;
+
+    /// What comparing says of years that are settled by this function alone.
+    fn compared(settle: Function<2>) -> Result<Years, String> {
+        let pair = Pair {
+            name: "settling",
+            read: "file",
+            written: ["ledger", "result"],
+            module: settle,
+            reference: settle,
+            answers: &[],
+        };
+        compare(&mut Bench::new(pair), 1, 3_000)
+    }
+
+    #[test]
+    fn years_of_the_reference_hold() {
+        let seen = compared(|file, [ledger, result]| reference::settle(ledger, file, result));
+        let seen = seen.unwrap();
+        assert!(seen.years > 1 && seen.accepted > 1_500);
+    }
+
+    #[test]
+    fn a_cent_too_many_is_found_without_the_reference() {
+        let report = compared(|file, [ledger, result]| {
+            let answer = reference::settle(ledger, file, result);
+            let carried = long_at(ledger, 4).unwrap();
+            put_longs(ledger, 32, &[carried + u64::from(answer == 0)]);
+            answer
+        });
+        let report = report.err().unwrap();
+        assert!(report.contains("year 0, call ") && report.contains("sums of the year: "));
+    }
+}
