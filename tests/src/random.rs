@@ -1429,6 +1429,11 @@ impl RunningYear {
         call
     }
 
+    /// Whether no interval is left to settle.
+    pub fn is_over(&self) -> bool {
+        long_at(&self.ledger, 3) == Some(self.world.intervals().into())
+    }
+
     /// A new file, the usual one, the last one again, or a damaged one.
     fn some_call(&self, rng: &mut Rng, size: &Size) -> SettleCall {
         let interval = self.next_interval(rng);

@@ -28,17 +28,19 @@ pub fn compare(settling: &mut Bench<2>, seed: u64, count: u64) -> Result<Years, 
         };
         let mut rng = numbers(!seed, seen.years);
         let (size, calls) = some_length(&mut rng);
-        let calls = calls.min(left);
         let mut year = RunningYear::open(&mut rng, &size);
         let mut sums = open(&mut opening, &year, place(0))?;
-        for number in 1..=calls {
+        for number in 1..=calls.min(left) {
             // The ledger is the one that the module left, which `settle` has compared.
             let call = year.next_call(&mut rng, &size).into();
             seen.accepted += u64::from(settle(settling, &call, place(number), &mut sums)?);
+            left -= 1;
+            if year.is_over() && rng.one_in(8) {
+                break;
+            }
         }
         seen.cut_charges += sums.cut_charges;
         seen.years += 1;
-        left -= calls;
     }
     Ok(seen)
 }
