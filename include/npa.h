@@ -62,10 +62,31 @@ enum npa_answer {
     NPA_REFUSED_POOL = 16         /* carried cents and charges together grow too large */
 };
 
-/* Opens a ledger for the delivery year that the opening block describes. */
+/*
+ * Opens a ledger for the delivery year that the opening block describes. Answers NPA_OK or a refusal from 1 to 5.
+ *
+ * block   is read.
+ * ledger  needs NPA_LEDGER_BYTES(ids) bytes; what they held before does not matter. On NPA_OK all of them are
+ *         written: the terms, no interval settled, no cents carried, and an account without sums for each id.
+ */
 uint32_t npa_open(const uint8_t *block, size_t block_len, uint8_t *ledger, size_t ledger_len);
 
-/* Settles an interval file into a ledger, by the same conventions. Declared ahead: an archive may not have it yet. */
+/*
+ * Settles an interval file into a ledger. Answers NPA_OK or a refusal from 6 to 16.
+ *
+ * ledger  is the one that npa_open and the calls since then left, which the caller sees to; of any other bytes
+ *         the call only finds words out of range and sums that do not close. On NPA_OK the accounts have the
+ *         commitments, charges and credits of the file's rows, the cents carried are those left over, and only
+ *         later intervals are accepted: the same file again is NPA_REFUSED_PAST.
+ * file    is read. It may be any bytes; whatever is not as laid out is refused.
+ * result  needs NPA_RESULT_BYTES(rows) bytes; what they held before does not matter, and NPA_RESULT_MOST bytes are
+ *         enough for any file. On NPA_OK they hold 8 words for the interval (ratio, charges, credits, carried,
+ *         total bonus, numerator, denominator, rows), then 8 for each row in file order (expected, actual, outage,
+ *         economic, shortfall, bonus, charge, credit). A word has 64 bits, lowest byte first.
+ *
+ * The caller keeps ledger and result together: the module can give neither a second time. After a refusal both
+ * are as they were, and the ledger takes the next file.
+ */
 uint32_t npa_settle(uint8_t *ledger, size_t ledger_len, const uint8_t *file, size_t file_len, uint8_t *result,
                     size_t result_len);
 

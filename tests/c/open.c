@@ -4,70 +4,35 @@
  */
 #include "npa.h"
 
-#include <stdio.h>
-#include <stdlib.h>
-#include <string.h>
+#include "check.h"
 
 #define IDS 4
 #define BLOCK_WORDS (5 + IDS)
 #define BLOCK_LEN (4 * BLOCK_WORDS)
 #define NEEDED NPA_LEDGER_BYTES(IDS)
 #define BEYOND 40
-#define FILLER 0xa5
 
 static const uint32_t LISTING[BLOCK_WORDS] = {1, 30000, 365, IDS, 20, 11, 12, 13, 14};
-
-/* Holds a number to the one it must be. */
-static void hold(const char *what, size_t which, uint64_t is, uint64_t must_be)
-{
-    if (is != must_be) {
-        printf("open.c: %s %lu: %llu, not %llu\n", what, (unsigned long)which, (unsigned long long)is,
-               (unsigned long long)must_be);
-        exit(1);
-    }
-}
-
-/* Writes the block's words, lowest byte first. */
-static void put_block(uint8_t *block, const uint32_t *words)
-{
-    size_t i;
-    for (i = 0; i < BLOCK_LEN; i++) {
-        block[i] = (uint8_t)(words[i / 4] >> (8 * (i % 4)));
-    }
-}
-
-/* A word of the ledger, lowest byte first. */
-static uint64_t ledger_word(const uint8_t *ledger, size_t word)
-{
-    uint64_t value = 0;
-    size_t i;
-    for (i = 8; i > 0; i--) {
-        value = 256 * value + ledger[8 * word + i - 1];
-    }
-    return value;
-}
 
 /* Opens the listing's ledger in a buffer that is longer than it need be. */
 static void open_listing(void)
 {
     static const uint64_t head[8] = {1, 30000, 365, 0, 0, IDS, 8, 0};
-    uint8_t block[BLOCK_LEN];
-    uint8_t ledger[NEEDED + BEYOND];
+    uint8_t *block = bytes_of(LISTING, BLOCK_LEN);
+    uint8_t *ledger = filled(NEEDED + BEYOND);
     size_t i;
 
-    put_block(block, LISTING);
-    memset(ledger, FILLER, sizeof ledger);
-    hold("answer to the listing's block of length", sizeof block,
-         npa_open(block, sizeof block, ledger, sizeof ledger), NPA_OK);
+    hold("answer to the listing's block of length", BLOCK_LEN, npa_open(block, BLOCK_LEN, ledger, NEEDED + BEYOND),
+         NPA_OK);
     for (i = 0; i < 8; i++) {
-        hold("ledger word", i, ledger_word(ledger, i), head[i]);
+        hold("ledger word", i, word(ledger, i), head[i]);
     }
     for (i = 8; i < 8 + 4 * IDS; i++) {
-        hold("ledger word", i, ledger_word(ledger, i), i % 4 == 0 ? 11 + (i - 8) / 4 : 0);
+        hold("ledger word", i, word(ledger, i), i % 4 == 0 ? 11 + (i - 8) / 4 : 0);
     }
-    for (i = NEEDED; i < sizeof ledger; i++) {
-        hold("ledger byte beyond the accounts", i, ledger[i], FILLER);
-    }
+    hold_filler("ledger byte beyond the accounts", ledger, NEEDED, NEEDED + BEYOND);
+    free(block);
+    free(ledger);
 }
 
 /* The listing's block with one word changed, and lengths that a call may cut. */
@@ -107,19 +72,17 @@ static void refuse(size_t which)
 {
     const struct refusal *refusal = &REFUSALS[which];
     uint32_t words[BLOCK_WORDS];
-    uint8_t block[BLOCK_LEN];
-    uint8_t ledger[NEEDED];
-    size_t i;
+    uint8_t *block;
+    uint8_t *ledger = filled(refusal->ledger_len);
 
     memcpy(words, LISTING, sizeof words);
     words[refusal->word] = refusal->value;
-    put_block(block, words);
-    memset(ledger, FILLER, sizeof ledger);
+    block = bytes_of(words, refusal->block_len);
     hold("answer to refusal", which, npa_open(block, refusal->block_len, ledger, refusal->ledger_len),
          refusal->answer);
-    for (i = 0; i < sizeof ledger; i++) {
-        hold("ledger byte after a refusal", i, ledger[i], FILLER);
-    }
+    hold_filler("ledger byte after a refusal", ledger, 0, refusal->ledger_len);
+    free(block);
+    free(ledger);
 }
 
 int main(void)

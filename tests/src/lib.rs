@@ -2,6 +2,8 @@
 #![forbid(unsafe_code)]
 
 pub mod layout;
+pub mod listing;
 pub mod random;
 pub mod reference;
 pub mod small;
+pub mod sums;

@@ -9,7 +9,8 @@ use crate::reference;
 const KW_MOST: u32 = 4_000_000;
 const PRICE_MOST: i64 = 1_000_000;
 const IMPORTS_MOST: i32 = 40_000_000;
-const POOL_MOST: u64 = 1_099_511_627_775;
+/// The largest pool.
+pub const POOL_MOST: u64 = 1_099_511_627_775;
 const CREDITED_MOST: u64 = 224_870_400_000_000;
 const HIGH: u64 = 1 << 32;
 
@@ -207,7 +208,7 @@ impl SettleCase {
 }
 
 /// The most an account may be charged for a commitment.
-fn limit(net_cone: u64, days: u64, commitment: u64) -> u64 {
+pub fn limit(net_cone: u64, days: u64, commitment: u64) -> u64 {
     (3 * u128::from(net_cone) * u128::from(days) * u128::from(commitment) / 2000) as u64
 }
 
@@ -374,6 +375,20 @@ impl World {
         file.head[5] = self.imports(rng, count) as u32;
         lay_out(rng, size, &mut file);
         file
+    }
+
+    /// A valid file with a row for every id, each with a curve of its own of so many points.
+    pub fn full_file(&self, rng: &mut Rng, interval: u32, row_points: usize) -> IntervalFile {
+        let (mut rows, mut points) = (Vec::new(), Vec::new());
+        for id in &self.ids {
+            let first = points.len();
+            points.extend(self.curve(rng, row_points));
+            let curve = (first, row_points);
+            let mut row = self.row(rng, *id, &[0, 0, 0, 1, 2, 3, 4], &points, &[curve]);
+            (row.first, row.count) = (first as u32, row_points as u32);
+            rows.push(row.words());
+        }
+        IntervalFile::new(self.net_cone, self.days, interval, rows, points)
     }
 
     /// Net imports, of either sign.
@@ -1262,13 +1277,13 @@ pub fn flip(rng: &mut Rng, buffer: &mut [u8]) {
 }
 
 /// Cuts a buffer anywhere.
-fn cut(rng: &mut Rng, buffer: &mut Vec<u8>) {
+pub fn cut(rng: &mut Rng, buffer: &mut Vec<u8>) {
     let length = rng.index(buffer.len() + 1);
     buffer.truncate(length);
 }
 
 /// Puts any bytes into the buffer from some place on.
-fn scramble(rng: &mut Rng, buffer: &mut [u8]) {
+pub fn scramble(rng: &mut Rng, buffer: &mut [u8]) {
     let from = rng.index(buffer.len() + 1);
     for byte in &mut buffer[from..] {
         *byte = rng.draw() as u8;
@@ -1371,6 +1386,8 @@ fn settle_counts_fit(call: &SettleCall, size: &Size) -> bool {
 pub struct RunningYear {
     pub world: World,
     pub block: Vec<u8>,
+    /// The ledger buffer before its opening.
+    pub unopened: Vec<u8>,
     pub ledger: Vec<u8>,
     /// A file that comes back in later intervals, so that sums grow to the limits.
     usual: IntervalFile,
@@ -1382,15 +1399,17 @@ impl RunningYear {
     pub fn open(rng: &mut Rng, size: &Size) -> Self {
         let world = World::any(rng, size);
         let filler = rng.index(size.gap + 1);
-        let mut ledger = rng.bytes(64 + 32 * world.ids.len() + filler);
+        let unopened = rng.bytes(64 + 32 * world.ids.len() + filler);
         let opening = world.opening(rng, size);
         let gaps = rng.bytes(opening.length);
         let block = opening.over(gaps);
+        let mut ledger = unopened.clone();
         reference::open(&block, &mut ledger);
         RunningYear {
             usual: world.file(rng, size, 0),
             world,
             block,
+            unopened,
             ledger,
             last_file: Vec::new(),
         }
@@ -1408,6 +1427,11 @@ impl RunningYear {
         let mut result = call.result.clone();
         reference::settle(&mut self.ledger, &call.file, &mut result);
         call
+    }
+
+    /// Whether no interval is left to settle.
+    pub fn is_over(&self) -> bool {
+        long_at(&self.ledger, 3) == Some(self.world.intervals().into())
     }
 
     /// A new file, the usual one, the last one again, or a damaged one.

@@ -1,11 +1,9 @@
 //! The figures the trade gave, each through opening, settling or listing.
 
 use npa_tests::layout::{long_at, point, IntervalFile, Ledger, Opening, Row};
+use npa_tests::listing::{self, curve_a, DAYS, IDS, NET_CONE};
 use npa_tests::random::push_block;
 use npa_tests::reference::{npalist, open, settle, HEADING};
-
-const NET_CONE: u32 = 30_000;
-const DAYS: u32 = 365;
 
 /// Settles one file into a ledger; the answer, the row words and the interval words.
 fn settled(ledger: &Ledger, file: &IntervalFile) -> (u32, Vec<[u64; 8]>, [u64; 8]) {
@@ -40,10 +38,6 @@ fn scheduled(points: &[[u32; 2]], range: (u32, u32), online: u32, lmp: i32) -> u
         ..Row::default()
     };
     one_row(NET_CONE, row, points)[5]
-}
-
-fn curve_a() -> [[u32; 2]; 2] {
-    [point(1_000, 20_000), point(5_000, 100_000)]
 }
 
 #[test]
@@ -172,69 +166,6 @@ fn expected_is_rounded_down_once() {
     );
 }
 
-/// The opening of the trade's example.
-fn example_opening() -> Opening {
-    Opening::new(NET_CONE, DAYS, &[11, 12, 13, 14])
-}
-
-/// The four rows of the trade's example, in any interval.
-fn example_file(interval: u32) -> IntervalFile {
-    let rows = [
-        Row {
-            id: 11,
-            committed: 100_000,
-            owned: 110_000,
-            metered: 60_000,
-            planned: 10_000,
-            maximum: 110_000,
-            minimum: 20_000,
-            online: 1,
-            lmp: 3_000,
-            count: 2,
-            ..Row::default()
-        },
-        Row {
-            id: 12,
-            committed: 50_000,
-            owned: 60_000,
-            metered: 20_000,
-            adjustment: 5_000,
-            forced: 35_000,
-            maximum: 25_000,
-            minimum: 10_000,
-            online: 1,
-            lmp: 6_001,
-            first: 2,
-            count: 2,
-            ..Row::default()
-        },
-        Row {
-            id: 13,
-            kind: 4,
-            owned: 40_000,
-            metered: 35_000,
-            maximum: 40_000,
-            online: 1,
-            lmp: 3_000,
-            first: 4,
-            count: 2,
-            ..Row::default()
-        },
-        Row {
-            id: 14,
-            kind: 1,
-            committed: 5_000,
-            metered: 15_001,
-            ..Row::default()
-        },
-    ];
-    let mut points = curve_a().to_vec();
-    points.extend([point(1_000, 10_000), point(6_000, 50_000)]);
-    points.extend([point(0, 0), point(4_000, 40_000)]);
-    let rows = rows.iter().map(Row::words).collect();
-    IntervalFile::new(NET_CONE, DAYS, interval, rows, points)
-}
-
 const EXAMPLE_LINES: &str = "\
 1000,11,86667,60000,10000,26667,0,0,0,0
 1000,12,43333,25000,0,0,18333,0,557628,0
@@ -246,11 +177,8 @@ pool,1000,866673,557628,557627,1
 /// The example's ledger as opening leaves it.
 fn example_ledger() -> Vec<u8> {
     let mut ledger = vec![0xaa; 64 + 32 * 4];
-    assert_eq!(open(&example_opening().bytes(), &mut ledger), 0);
-    assert_eq!(
-        ledger,
-        Ledger::new(NET_CONE, DAYS, &[11, 12, 13, 14]).bytes()
-    );
+    assert_eq!(open(&listing::opening().bytes(), &mut ledger), 0);
+    assert_eq!(ledger, Ledger::new(NET_CONE, DAYS, &IDS).bytes());
     ledger
 }
 
@@ -258,10 +186,10 @@ fn example_ledger() -> Vec<u8> {
 fn the_last_interval_and_the_same_file_again() {
     let mut ledger = example_ledger();
     let mut result = [0xaa; 320];
-    let after = example_file(105_120).bytes();
+    let after = listing::file(105_120).bytes();
     assert_eq!(settle(&mut ledger, &after, &mut result), 9);
     assert_eq!(result, [0xaa; 320]);
-    let last = example_file(105_119).bytes();
+    let last = listing::file(105_119).bytes();
     assert_eq!(settle(&mut ledger, &last, &mut result), 0);
     assert_eq!(long_at(&ledger, 3), Some(105_120));
     let kept = (ledger.clone(), result);
@@ -271,7 +199,7 @@ fn the_last_interval_and_the_same_file_again() {
 
 #[test]
 fn four_rows_need_320_result_bytes() {
-    let file = example_file(1_000).bytes();
+    let file = listing::file(1_000).bytes();
     let mut ledger = example_ledger();
     assert_eq!(settle(&mut ledger, &file, &mut [0; 319]), 15);
     assert_eq!(ledger, example_ledger());
@@ -284,9 +212,9 @@ fn four_rows_need_320_result_bytes() {
 #[test]
 fn the_example_leaves_these_accounts() {
     let mut ledger = example_ledger();
-    let file = example_file(1_000).bytes();
+    let file = listing::file(1_000).bytes();
     assert_eq!(settle(&mut ledger, &file, &mut [0; 320]), 0);
-    let mut expected = Ledger::new(NET_CONE, DAYS, &[11, 12, 13, 14]);
+    let mut expected = Ledger::new(NET_CONE, DAYS, &IDS);
     expected.words[3] = 1_001;
     expected.words[4] = 1;
     expected.accounts = vec![
@@ -317,7 +245,7 @@ fn stream(blocks: &[&[u8]]) -> Vec<u8> {
 
 #[test]
 fn the_whole_listing() {
-    let input = stream(&[&example_opening().bytes(), &example_file(1_000).bytes()]);
+    let input = stream(&[&listing::opening().bytes(), &listing::file(1_000).bytes()]);
     let heading = "interval,id,expected,actual,outage,economic,shortfall,bonus,charge,credit\n";
     let output = [heading, EXAMPLE_LINES].concat();
     assert_eq!(npalist(&input), output.as_bytes());
@@ -325,8 +253,8 @@ fn the_whole_listing() {
 
 #[test]
 fn a_listing_of_any_first_part_of_a_stream() {
-    let opening = stream(&[&example_opening().bytes()]);
-    let file = stream(&[&example_file(1_000).bytes()]);
+    let opening = stream(&[&listing::opening().bytes()]);
+    let file = stream(&[&listing::file(1_000).bytes()]);
     let twice = [&opening[..], &file, &file].concat();
     for end in 0..=twice.len() {
         let first = opening.len() + file.len();
@@ -344,9 +272,9 @@ fn a_listing_of_any_first_part_of_a_stream() {
 
 #[test]
 fn a_listing_goes_on_after_a_refused_interval() {
-    let opening = example_opening().bytes();
-    let file = example_file(1_000).bytes();
-    let input = stream(&[&opening, &[], &example_file(105_120).bytes(), &file]);
+    let opening = listing::opening().bytes();
+    let file = listing::file(1_000).bytes();
+    let input = stream(&[&opening, &[], &listing::file(105_120).bytes(), &file]);
     assert_eq!(
         listed(&input),
         format!("refused,1,7\nrefused,2,9\n{EXAMPLE_LINES}")
@@ -355,7 +283,7 @@ fn a_listing_goes_on_after_a_refused_interval() {
 
 #[test]
 fn a_listing_stops_after_a_refused_opening() {
-    let file = example_file(1_000).bytes();
+    let file = listing::file(1_000).bytes();
     assert_eq!(listed(&stream(&[&[], &file])), "refused,0,1\n");
     let zero = Opening::new(0, DAYS, &[11]).bytes();
     assert_eq!(listed(&stream(&[&zero, &file])), "refused,0,2\n");
@@ -365,8 +293,8 @@ fn a_listing_stops_after_a_refused_opening() {
 
 #[test]
 fn a_listing_stops_after_a_length_over_the_limit() {
-    let opening = stream(&[&example_opening().bytes()]);
-    let file = stream(&[&example_file(1_000).bytes()]);
+    let opening = stream(&[&listing::opening().bytes()]);
+    let file = stream(&[&listing::file(1_000).bytes()]);
     for (length, line) in [(4_096u32, "cut,0\n"), (4_097, "refused,0,1\n")] {
         let input = [&length.to_le_bytes()[..], &[1; 50]].concat();
         assert_eq!(listed(&input), line);
@@ -375,7 +303,7 @@ fn a_listing_stops_after_a_length_over_the_limit() {
         let input = [&opening[..], &length.to_le_bytes(), &file].concat();
         assert_eq!(listed(&input), line);
     }
-    let mut longest = example_file(1_000);
+    let mut longest = listing::file(1_000);
     longest.length = 49_152;
     let input = [&opening[..], &stream(&[&longest.bytes()])].concat();
     assert_eq!(listed(&input), EXAMPLE_LINES);

@@ -6,8 +6,8 @@ use crate::guard::{watch, Guarded, Lent, Side};
 use npa_tests::random::Rng;
 use std::array;
 use std::collections::BTreeMap;
-use std::env;
 use std::process::ExitCode;
+use std::{env, fmt};
 
 /// One buffer to read and `W` to write; answers 0 or a ground of refusal.
 pub type Function<const W: usize> = fn(&[u8], [&mut [u8]; W]) -> u32;
@@ -39,11 +39,27 @@ pub struct Calls<const W: usize> {
     pub random: fn(&mut Rng, u64) -> Call<W>,
 }
 
-/// A call's place: its number in the run with this seed.
+/// A call's place in the run with this seed: its number, or its number in a year.
 #[derive(Clone, Copy)]
 pub struct Place {
     pub seed: u64,
+    pub year: Option<u64>,
     pub number: u64,
+}
+
+impl fmt::Display for Place {
+    fn fmt(&self, to: &mut fmt::Formatter) -> fmt::Result {
+        let Place { seed, number, .. } = self;
+        match self.year {
+            None => write!(to, "seed {seed}, case {number}"),
+            Some(year) => write!(to, "seed {seed}, year {year}, call {number}"),
+        }
+    }
+}
+
+/// The random numbers of a case or a year.
+pub fn numbers(seed: u64, number: u64) -> Rng {
+    Rng::new(Rng::new(seed).draw().wrapping_add(number))
 }
 
 /// What a call answers, and the bytes it leaves in the buffers to write.
@@ -79,11 +95,8 @@ impl<const W: usize> Pair<W> {
 
     /// What is printed of a call that goes wrong.
     fn report(&self, call: &Call<W>, place: Place, side: Side, what: &str) -> String {
-        let Place { seed, number } = place;
         let (name, side) = (self.name, format!("{side:?}").to_lowercase());
-        let mut text = format!(
-            "{name}: seed {seed}, case {number}, buffers at the {side} of their pages: {what}"
-        );
+        let mut text = format!("{name}: {place}, buffers at the {side} of their pages: {what}");
         let names = [self.read].into_iter().chain(self.written);
         let buffers = [&call.read].into_iter().chain(&call.written);
         for (name, bytes) in names.zip(buffers) {
@@ -103,6 +116,8 @@ pub struct Bench<const W: usize> {
     pair: Pair<W>,
     read: Guarded,
     written: [Guarded; W],
+    /// How many calls had each answer.
+    met: BTreeMap<u32, u64>,
 }
 
 impl<const W: usize> Bench<W> {
@@ -111,7 +126,22 @@ impl<const W: usize> Bench<W> {
             pair,
             read: Guarded::map(),
             written: array::from_fn(|_| Guarded::map()),
+            met: BTreeMap::new(),
         }
+    }
+
+    /// Compares the fixed calls and `count` random ones.
+    pub fn compare_all(&mut self, calls: &Calls<W>, seed: u64, count: u64) -> Result<(), String> {
+        let mut fixed = (calls.fixed)(&mut Rng::new(seed)).into_iter();
+        for number in 0..fixed.len() as u64 + count {
+            let call = match fixed.next() {
+                Some(call) => call,
+                None => (calls.random)(&mut numbers(seed, number), number),
+            };
+            let year = None;
+            self.compare(&call, Place { seed, year, number })?;
+        }
+        Ok(())
     }
 
     /// Compares a call on both sides of the pages; the answer, or what goes wrong.
@@ -119,12 +149,32 @@ impl<const W: usize> Bench<W> {
         let wanted = self.pair.wanted(call);
         for side in [Side::End, Side::Start] {
             let answer = self.call(call, place, side);
-            let left = self.written.each_ref().map(Guarded::bytes);
-            if let Some(what) = self.pair.difference(answer, left, &wanted) {
+            if let Some(what) = self.pair.difference(answer, self.left(), &wanted) {
                 return Err(self.pair.report(call, place, side, &what));
             }
         }
+        *self.met.entry(wanted.answer).or_default() += 1;
         Ok(wanted.answer)
+    }
+
+    /// The buffers to write, as the module left them.
+    pub fn left(&self) -> [&[u8]; W] {
+        self.written.each_ref().map(Guarded::bytes)
+    }
+
+    /// Counts the calls and their answers, if every one of these was met.
+    pub fn counts(&self, seed: u64) -> Result<String, String> {
+        let Pair { name, answers, .. } = self.pair;
+        if let Some(answer) = answers.iter().find(|answer| !self.met.contains_key(answer)) {
+            return Err(format!("{name}: seed {seed}: no case is answered {answer}"));
+        }
+        let total: u64 = self.met.values().sum();
+        let accepted = self.met.get(&0).unwrap_or(&0);
+        let counts: Vec<String> = self.met.iter().map(|(a, n)| format!("{a}: {n}")).collect();
+        let counts = counts.join(", ");
+        Ok(format!(
+            "{total} cases, {accepted} accepted, seed {seed}; answers {counts}"
+        ))
     }
 
     /// Calls the module; the guarded buffers stay as it leaves them.
@@ -134,60 +184,27 @@ impl<const W: usize> Bench<W> {
             guarded.put(bytes, side, Lent::ToWrite);
         }
         let pair = &self.pair;
-        let says = || {
-            let what = format!("trap: {} written, or a byte outside touched", pair.read);
-            pair.report(call, place, side, &what)
-        };
+        let says = |means: &str| pair.report(call, place, side, &format!("trap: {means}"));
         let read = self.read.bytes();
         let written = self.written.each_mut().map(Guarded::bytes_mut);
         watch(&says, || (pair.module)(read, written))
     }
 }
 
-/// Compares the fixed calls and `count` random ones; what to print of them.
-fn run<const W: usize>(
-    pair: Pair<W>,
-    calls: &Calls<W>,
-    seed: u64,
-    count: u64,
-) -> Result<String, String> {
-    let (name, answers) = (pair.name, pair.answers);
-    let mut bench = Bench::new(pair);
-    let mut met: BTreeMap<u32, u64> = BTreeMap::new();
-    let mut fixed = (calls.fixed)(&mut Rng::new(seed)).into_iter();
-    let total = fixed.len() as u64 + count;
-    for number in 0..total {
-        let mut rng = Rng::new(Rng::new(seed).draw().wrapping_add(number));
-        let call = match fixed.next() {
-            Some(call) => call,
-            None => (calls.random)(&mut rng, number),
-        };
-        let answer = bench.compare(&call, Place { seed, number })?;
-        *met.entry(answer).or_default() += 1;
-    }
-    if let Some(answer) = answers.iter().find(|answer| !met.contains_key(answer)) {
-        return Err(format!("{name}: seed {seed}: no case is answered {answer}"));
-    }
-    let counts: Vec<String> = met.iter().map(|(a, n)| format!("{a}: {n}")).collect();
-    let counts = counts.join(", ");
-    Ok(format!("{total} cases, seed {seed}; answers {counts}"))
-}
-
 /// The seed and the number of random calls, from `[SEED [N]]`.
-fn arguments() -> Result<(u64, u64), String> {
+fn arguments(count: u64) -> Result<(u64, u64), String> {
     let numbers: Result<Vec<u64>, _> = env::args().skip(1).map(|word| word.parse()).collect();
     match numbers.as_deref() {
-        Ok([]) => Ok((1, 100_000)),
-        Ok([seed]) => Ok((*seed, 100_000)),
+        Ok([]) => Ok((1, count)),
+        Ok([seed]) => Ok((*seed, count)),
         Ok([seed, count]) => Ok((*seed, *count)),
         _ => Err("usage: [SEED [N]], both numbers".to_string()),
     }
 }
 
-/// A program that compares the two functions of a pair.
-pub fn program<const W: usize>(pair: Pair<W>, calls: &Calls<W>) -> ExitCode {
-    let outcome = arguments().and_then(|(seed, count)| run(pair, calls, seed, count));
-    match outcome {
+/// A program that runs on a seed and a number of random calls, `count` unless one is given.
+pub fn program(count: u64, run: fn(u64, u64) -> Result<String, String>) -> ExitCode {
+    match arguments(count).and_then(|(seed, count)| run(seed, count)) {
         Ok(text) => {
             println!("{text}");
             ExitCode::SUCCESS
@@ -229,7 +246,11 @@ mod tests {
             read: vec![0x5a; read],
             written: [vec![0x11; written]],
         };
-        let place = Place { seed: 3, number: 4 };
+        let place = Place {
+            seed: 3,
+            year: None,
+            number: 4,
+        };
         Bench::new(pair(module)).compare(&call, place)
     }
 
@@ -273,7 +294,12 @@ mod tests {
                 written: [Vec::new()],
             },
         };
-        let report = run(pair(fill), &calls, 3, 10).unwrap_err();
+        let mut bench = Bench::new(pair(fill));
+        assert_eq!(bench.compare_all(&calls, 3, 10), Ok(()));
+        let report = bench.counts(3).unwrap_err();
         assert_eq!(report, "filling: seed 3: no case is answered 1");
+        bench.pair.answers = &[0];
+        let counts = "10 cases, 10 accepted, seed 3; answers 0: 10";
+        assert_eq!(bench.counts(3).unwrap(), counts);
     }
 }

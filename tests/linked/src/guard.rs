@@ -22,7 +22,15 @@ const PROT_WRITE: c_int = 2;
 const MAP_PRIVATE: c_int = 0x02;
 const MAP_ANONYMOUS: c_int = 0x20;
 const MAP_NORESERVE: c_int = 0x4000;
-const SIGSEGV: c_int = 11;
+
+/// Signals that end a call, and what each of them means.
+const TRAPS: [(c_int, &str); 5] = [
+    (4, "no such instruction"),
+    (6, "it gave up"),
+    (7, "a byte outside touched"),
+    (8, "a division by 0"),
+    (11, "a byte outside touched, or one lent to read written"),
+];
 
 extern "C" {
     fn mmap(
@@ -142,7 +150,8 @@ impl Drop for Guarded {
 
 // ---------------------------------------------------------------- traps
 
-type Says<'a> = &'a dyn Fn() -> String;
+/// What to say of a call that traps, by what the trap means.
+type Says<'a> = &'a dyn Fn(&str) -> String;
 
 thread_local! {
     /// What to say if this thread traps now; null if nothing is watched.
@@ -154,7 +163,9 @@ pub fn watch<T>(says: Says, call: impl FnOnce() -> T) -> T {
     static HANDLER: Once = Once::new();
     // SAFETY: the handler has the type that C asks for.
     HANDLER.call_once(|| unsafe {
-        signal(SIGSEGV, on_trap);
+        for (number, _) in TRAPS {
+            signal(number, on_trap);
+        }
     });
     WATCHED.set(ptr::from_ref(&says).cast());
     let answer = call();
@@ -163,11 +174,13 @@ pub fn watch<T>(says: Says, call: impl FnOnce() -> T) -> T {
 }
 
 /// Runs in place of the call that trapped, which holds no lock and never goes on.
-extern "C" fn on_trap(_: c_int) {
+extern "C" fn on_trap(number: c_int) {
+    let trap = TRAPS.iter().find(|trap| trap.0 == number);
+    let means = trap.map_or("another signal", |trap| trap.1);
     // SAFETY: the pointer is set only while `watch` runs, and `says` lives as long.
     match unsafe { WATCHED.get().as_ref() } {
-        Some(says) => eprintln!("{}", says()),
-        None => eprintln!("a trap outside any call"),
+        Some(says) => eprintln!("{}", says(means)),
+        None => eprintln!("a trap outside any call: {means}"),
     }
     // SAFETY: ends the process.
     unsafe { _exit(1) }
@@ -199,7 +212,7 @@ mod tests {
             .as_ptr()
             .wrapping_offset(words[3].parse().unwrap());
         // SAFETY: meant to trap wherever the byte is not one that was lent.
-        watch(&|| format!("trap: {touch}"), || unsafe {
+        watch(&|means| format!("trap: {means}: {touch}"), || unsafe {
             if words[4] == "true" {
                 byte.cast_mut().write_volatile(7);
             } else {

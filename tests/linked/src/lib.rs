@@ -1,7 +1,7 @@
 //! The module as it is linked, held to the reference call by call.
 //!
 //! Calls are made on buffers between guard pages. What a function needs is a
-//! wrapper in `npa`, its calls (as in `openings`) and a program of a few lines.
+//! wrapper in `npa`, its calls (`openings`, `settlings`) and a program of a few lines.
 #![deny(unsafe_code)]
 
 pub mod compare;
@@ -10,3 +10,5 @@ pub mod guard;
 #[allow(unsafe_code)]
 pub mod npa;
 pub mod openings;
+pub mod settlings;
+pub mod years;

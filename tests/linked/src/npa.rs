@@ -2,6 +2,14 @@
 
 extern "C" {
     fn npa_open(block: *const u8, block_len: usize, ledger: *mut u8, ledger_len: usize) -> u32;
+    fn npa_settle(
+        ledger: *mut u8,
+        ledger_len: usize,
+        file: *const u8,
+        file_len: usize,
+        result: *mut u8,
+        result_len: usize,
+    ) -> u32;
 }
 
 /// Opens a ledger; answers 0 or the ground of refusal.
@@ -13,6 +21,21 @@ pub fn open(block: &[u8], ledger: &mut [u8]) -> u32 {
             block.len(),
             ledger.as_mut_ptr(),
             ledger.len(),
+        )
+    }
+}
+
+/// Settles an interval file; answers 0 or the ground of refusal.
+pub fn settle(ledger: &mut [u8], file: &[u8], result: &mut [u8]) -> u32 {
+    // SAFETY: slices have true lengths and do not overlap, and their pointers are not null.
+    unsafe {
+        npa_settle(
+            ledger.as_mut_ptr(),
+            ledger.len(),
+            file.as_ptr(),
+            file.len(),
+            result.as_mut_ptr(),
+            result.len(),
         )
     }
 }

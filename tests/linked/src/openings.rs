@@ -1,9 +1,20 @@
 //! Calls to opening: fixed ones on both sides of every boundary, and random ones.
 
-use crate::compare::{Call, Calls};
+use crate::compare::{Call, Calls, Pair};
+use crate::npa;
 use npa_tests::layout::Opening;
 use npa_tests::random::{
     flip, long_open, open_call_for, valid_open, OpenCall, OpenCase, Rng, FULL, MIDDLE, SMALL,
+};
+use npa_tests::reference;
+
+pub const PAIR: Pair<1> = Pair {
+    name: "opening",
+    read: "block",
+    written: ["ledger"],
+    module: |block, [ledger]| npa::open(block, ledger),
+    reference: |block, [ledger]| reference::open(block, ledger),
+    answers: &[0, 1, 2, 3, 4, 5],
 };
 
 pub const CALLS: Calls<1> = Calls { fixed, random };
@@ -295,7 +306,6 @@ fn near(rng: &mut Rng, bounds: &[u32]) -> u32 {
 #[cfg(test)]
 mod tests {
     use super::*;
-    use npa_tests::reference;
 
     /// The reference's answer.
     fn answer(case: &OpenCase) -> u32 {

@@ -1,19 +1,16 @@
 //! `opening [SEED [N]]` holds the module's opening to the reference's: fixed calls
 //! at every boundary, then N random ones.
 
-use npa_linked::compare::{program, Pair};
-use npa_linked::{npa, openings};
-use npa_tests::reference;
+use npa_linked::compare::{program, Bench};
+use npa_linked::openings::{CALLS, PAIR};
 use std::process::ExitCode;
 
+fn run(seed: u64, count: u64) -> Result<String, String> {
+    let mut bench = Bench::new(PAIR);
+    bench.compare_all(&CALLS, seed, count)?;
+    bench.counts(seed)
+}
+
 fn main() -> ExitCode {
-    let pair = Pair {
-        name: "opening",
-        read: "block",
-        written: ["ledger"],
-        module: |block, [ledger]| npa::open(block, ledger),
-        reference: |block, [ledger]| reference::open(block, ledger),
-        answers: &[0, 1, 2, 3, 4, 5],
-    };
-    program(pair, &openings::CALLS)
+    program(100_000, run)
 }

@@ -1,0 +1,225 @@
+/*
+ * Settles the file of document 01's listing from C and looks at every word of ledger and result; then the same
+ * file again, buffers that are too short, and a file to refuse on each other ground.
+ * Fails at the first difference and says what it is; else it says nothing. It is C99 and C++11.
+ */
+#include "npa.h"
+
+#include "check.h"
+
+#define IDS 4
+#define ROWS 4
+#define POINTS 6
+#define BLOCK_WORDS (5 + IDS)
+#define BLOCK_LEN (4 * BLOCK_WORDS)
+#define FILE_WORDS (10 + 14 * ROWS + 2 * POINTS)
+#define FILE_LEN (4 * FILE_WORDS)
+#define LEDGER_LEN NPA_LEDGER_BYTES(IDS)
+#define RESULT_LEN NPA_RESULT_BYTES(ROWS)
+#define BEYOND 40
+
+static const uint32_t LISTING[FILE_WORDS] = {
+    /* format, interval, Net CONE, days, region-wide, imports, rows and their offset, points and their offset */
+    1, 1000, 30000, 365, 0, 0, ROWS, 40, POINTS, 40 + 56 * ROWS,
+    /* id, kind, committed, owned, metered, adjustment, planned, forced, maximum, minimum, online, LMP, points */
+    11, 0, 100000, 110000, 60000, 0, 10000, 0, 110000, 20000, 1, 3000, 0, 2,
+    12, 0, 50000, 60000, 20000, 5000, 0, 35000, 25000, 10000, 1, 6001, 2, 2,
+    13, 4, 0, 40000, 35000, 0, 0, 0, 40000, 0, 1, 3000, 4, 2,
+    14, 1, 5000, 0, 15001, 0, 0, 0, 0, 0, 0, 0, 0, 0,
+    /* price, kW */
+    1000, 20000, 5000, 100000,
+    1000, 10000, 6000, 50000,
+    0, 0, 4000, 40000,
+};
+
+static const uint64_t RESULT[8 + 8 * ROWS] = {
+    /* ratio, charges, credits, carried, total bonus, numerator, denominator, rows */
+    866673, 557628, 557627, 1, 40001, 130001, 150000, ROWS,
+    /* expected, actual, outage, economic, shortfall, bonus, charge, credit */
+    86667, 60000, 10000, 26667, 0, 0, 0, 0,
+    43333, 25000, 0, 0, 18333, 0, 557628, 0,
+    0, 35000, 0, 0, 0, 30000, 0, 418210,
+    5000, 15001, 0, 0, 0, 10001, 0, 139417,
+};
+
+static const uint64_t LEDGER[8 + 4 * IDS] = {
+    /* format, Net CONE, days, earliest interval, carried, accounts and their offset, 0 */
+    1, 30000, 365, 1001, 1, IDS, 8, 0,
+    /* id, largest commitment, charged, credited */
+    11, 100000, 0, 0,
+    12, 50000, 557628, 0,
+    13, 0, 0, 418210,
+    14, 5000, 0, 139417,
+};
+
+/* A ledger as opening leaves it; it has the listing's ids. */
+static uint8_t *opened(uint32_t net_cone, uint32_t days)
+{
+    uint32_t words[BLOCK_WORDS] = {1, net_cone, days, IDS, 20, 11, 12, 13, 14};
+    uint8_t *block = bytes_of(words, BLOCK_LEN);
+    uint8_t *ledger = buffer(LEDGER_LEN);
+    hold("answer to an opening block of length", BLOCK_LEN, npa_open(block, BLOCK_LEN, ledger, LEDGER_LEN), NPA_OK);
+    free(block);
+    return ledger;
+}
+
+/* Sets a word of a ledger. */
+static void put_word(uint8_t *ledger, size_t number, uint64_t value)
+{
+    size_t i;
+    for (i = 0; i < 8; i++) {
+        ledger[8 * number + i] = (uint8_t)(value >> (8 * i));
+    }
+}
+
+/* Holds a ledger and a result to the listing's. */
+static void hold_listing(const uint8_t *ledger, const uint8_t *result)
+{
+    size_t i;
+    for (i = 0; i < 8 + 4 * IDS; i++) {
+        hold("ledger word", i, word(ledger, i), LEDGER[i]);
+    }
+    for (i = 0; i < 8 + 8 * ROWS; i++) {
+        hold("result word", i, word(result, i), RESULT[i]);
+    }
+}
+
+/* Settles the listing's file, and again, when it is refused; the result buffer is not set before. */
+static void settle_twice(void)
+{
+    uint8_t *ledger = opened(30000, 365);
+    uint8_t *file = bytes_of(LISTING, FILE_LEN);
+    uint8_t *result = buffer(RESULT_LEN);
+
+    hold("answer to the listing's file of length", FILE_LEN,
+         npa_settle(ledger, LEDGER_LEN, file, FILE_LEN, result, RESULT_LEN), NPA_OK);
+    hold_listing(ledger, result);
+    hold("answer to the same file of length", FILE_LEN,
+         npa_settle(ledger, LEDGER_LEN, file, FILE_LEN, result, RESULT_LEN), NPA_REFUSED_PAST);
+    hold_listing(ledger, result);
+    free(ledger);
+    free(file);
+    free(result);
+}
+
+/* Settles the listing's file with a result buffer of any length; bytes beyond the rows stay as they were. */
+static void settle_into(size_t result_len, uint32_t answer)
+{
+    uint8_t *ledger = opened(30000, 365);
+    uint8_t *untouched = opened(30000, 365);
+    uint8_t *file = bytes_of(LISTING, FILE_LEN);
+    uint8_t *result = filled(result_len);
+
+    hold("answer with result bytes", result_len,
+         npa_settle(ledger, LEDGER_LEN, file, FILE_LEN, result, result_len), answer);
+    if (answer == NPA_OK) {
+        hold_listing(ledger, result);
+        hold_filler("result byte beyond the rows", result, RESULT_LEN, result_len);
+    } else {
+        hold("ledger unchanged with result bytes", result_len, memcmp(ledger, untouched, LEDGER_LEN) == 0, 1);
+        hold_filler("result byte after a refusal", result, 0, result_len);
+    }
+    free(ledger);
+    free(untouched);
+    free(file);
+    free(result);
+}
+
+/* The listing with one word of its ledger or its file changed. */
+struct refusal {
+    uint32_t answer;
+    int in_ledger;
+    size_t word;
+    uint32_t value;
+};
+
+static const struct refusal REFUSALS[] = {
+    {NPA_REFUSED_LEDGER, 1, 0, 2},
+    {NPA_REFUSED_LEDGER, 1, 4, 1},
+    {NPA_REFUSED_LEDGER, 1, 7, 1},
+    {NPA_REFUSED_FILE, 0, 0, 2},
+    {NPA_REFUSED_OTHER_TERMS, 0, 2, 30001},
+    {NPA_REFUSED_OTHER_TERMS, 0, 3, 366},
+    {NPA_REFUSED_EVENT, 0, 1, 105120},
+    {NPA_REFUSED_EVENT, 0, 4, 2},
+    {NPA_REFUSED_EVENT, 0, 5, 40000001},
+    {NPA_REFUSED_PAST, 1, 3, 1001},
+    {NPA_REFUSED_TABLES, 0, 6, 0},
+    {NPA_REFUSED_TABLES, 0, 7, 39},
+    {NPA_REFUSED_TABLES, 0, 9, 0xffffffff},
+    {NPA_REFUSED_ROW_IDS, 0, 10, 12},
+    {NPA_REFUSED_ROW_IDS, 0, 52, 15},
+    {NPA_REFUSED_ROW, 0, 11, 5},
+    {NPA_REFUSED_ROW, 0, 54, 4000001},
+    {NPA_REFUSED_POINTS, 0, 23, 11},
+    {NPA_REFUSED_POINTS, 0, 77, 4000001},
+};
+
+/* Makes a call to refuse; no byte of ledger and result may change. */
+static void refuse(uint8_t *ledger, const uint32_t *words, uint32_t answer)
+{
+    uint8_t before[LEDGER_LEN];
+    uint8_t *file = bytes_of(words, FILE_LEN);
+    uint8_t *result = filled(RESULT_LEN);
+
+    memcpy(before, ledger, LEDGER_LEN);
+    hold("answer to a call to refuse on", answer,
+         npa_settle(ledger, LEDGER_LEN, file, FILE_LEN, result, RESULT_LEN), answer);
+    hold("ledger unchanged by refusal", answer, memcmp(ledger, before, LEDGER_LEN) == 0, 1);
+    hold_filler("result byte after a refusal", result, 0, RESULT_LEN);
+    free(file);
+    free(result);
+}
+
+/* Refuses the listing with one word changed. */
+static void refuse_word(const struct refusal *refusal)
+{
+    uint32_t words[FILE_WORDS];
+    uint8_t *ledger = opened(30000, 365);
+
+    memcpy(words, LISTING, sizeof words);
+    if (refusal->in_ledger) {
+        put_word(ledger, refusal->word, refusal->value);
+    } else {
+        words[refusal->word] = refusal->value;
+    }
+    refuse(ledger, words, refusal->answer);
+    free(ledger);
+}
+
+/* Refuses the listing where as much is carried as may be, and its charges would be added. */
+static void refuse_pool(void)
+{
+    const uint64_t carried = 1099511627775u;
+    const uint64_t charged = 300000000000u;
+    uint32_t words[FILE_WORDS];
+    uint8_t *ledger = opened(200000, 366);
+    size_t i;
+
+    memcpy(words, LISTING, sizeof words);
+    words[2] = 200000;
+    words[3] = 366;
+    put_word(ledger, 4, carried);
+    for (i = 0; i < IDS; i++) {
+        put_word(ledger, 9 + 4 * i, 3000000);
+        put_word(ledger, 10 + 4 * i, charged);
+    }
+    put_word(ledger, 11, IDS * charged - carried);
+    refuse(ledger, words, NPA_REFUSED_POOL);
+    free(ledger);
+}
+
+int main(void)
+{
+    size_t i;
+    settle_twice();
+    settle_into(RESULT_LEN, NPA_OK);
+    settle_into(RESULT_LEN + BEYOND, NPA_OK);
+    settle_into(RESULT_LEN - 1, NPA_REFUSED_RESULT_ROOM);
+    settle_into(0, NPA_REFUSED_RESULT_ROOM);
+    for (i = 0; i < sizeof REFUSALS / sizeof REFUSALS[0]; i++) {
+        refuse_word(&REFUSALS[i]);
+    }
+    refuse_pool();
+    return 0;
+}

@@ -1,0 +1,26 @@
+//! `settling [SEED [N]]` holds the module's settling to the reference's: fixed calls
+//! at every boundary, then N random ones, a quarter of them in years whose sums are checked.
+
+use npa_linked::compare::{program, Bench};
+use npa_linked::settlings::{CALLS, PAIR};
+use npa_linked::years;
+use std::process::ExitCode;
+
+fn run(seed: u64, count: u64) -> Result<String, String> {
+    let mut bench = Bench::new(PAIR);
+    let in_years = count / 4;
+    bench.compare_all(&CALLS, seed, count - in_years)?;
+    let years::Years {
+        years,
+        accepted,
+        cut_charges,
+    } = years::compare(&mut bench, seed, in_years)?;
+    let counts = bench.counts(seed)?;
+    Ok(format!(
+        "{counts}; {years} years, {accepted} accepted, {cut_charges} charges cut"
+    ))
+}
+
+fn main() -> ExitCode {
+    program(200_000, run)
+}

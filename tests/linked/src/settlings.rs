@@ -1,0 +1,234 @@
+//! Calls to settling: fixed ones on both sides of every boundary, and random ones.
+
+pub mod curves;
+pub mod extremes;
+pub mod faults;
+pub mod file_bounds;
+pub mod ledger_bounds;
+pub mod row_bounds;
+
+use crate::compare::{Call, Calls, Pair};
+use crate::npa;
+use npa_tests::layout::{put_words, IntervalFile, Ledger, Row};
+use npa_tests::listing::{self, DAYS, IDS, NET_CONE};
+use npa_tests::random::{
+    cut, flip, long_settle, scramble, settle_call_for, valid_settle, Rng, SettleCall, SettleCase,
+    Size, FULL, MIDDLE, SMALL,
+};
+use npa_tests::reference;
+
+pub const PAIR: Pair<2> = Pair {
+    name: "settling",
+    read: "file",
+    written: ["ledger", "result"],
+    module: |file, [ledger, result]| npa::settle(ledger, file, result),
+    reference: |file, [ledger, result]| reference::settle(ledger, file, result),
+    answers: &[0, 6, 7, 8, 9, 10, 11, 12, 13, 14, 15, 16],
+};
+
+pub const CALLS: Calls<2> = Calls { fixed, random };
+
+impl From<SettleCall> for Call<2> {
+    fn from(call: SettleCall) -> Self {
+        Call {
+            read: call.file,
+            written: [call.ledger, call.result],
+        }
+    }
+}
+
+// ---------------------------------------------------------------- fixed calls
+
+fn fixed(rng: &mut Rng) -> Vec<Call<2>> {
+    let mut cases = ledger_bounds::cases();
+    cases.extend(file_bounds::cases());
+    cases.extend(row_bounds::cases());
+    cases.extend(curves::cases());
+    cases.extend(extremes::cases());
+    cases.extend(faults::cases());
+    let mut calls: Vec<Call<2>> = cases.iter().map(|case| case.call(rng).into()).collect();
+    calls.extend(single_bits(rng));
+    calls
+}
+
+/// The result bytes of so many rows.
+fn needed(rows: usize) -> usize {
+    64 + 64 * rows
+}
+
+/// A settling of this file by ids; all just long enough.
+fn settling_of(ids: &[u32], file: IntervalFile) -> SettleCase {
+    SettleCase {
+        ledger: Ledger::new(file.head[2], file.head[3], ids),
+        result_length: needed(file.rows.len()),
+        file,
+    }
+}
+
+/// The settling of document 01's listing.
+fn listing() -> SettleCase {
+    settling_of(&IDS, listing::file(1_000))
+}
+
+/// So many ids.
+fn rising(count: usize) -> Vec<u32> {
+    (1..=count as u32).map(|index| 7 * index).collect()
+}
+
+/// A demand resource that is 40 kW short.
+fn short_row(id: u32) -> [u32; 14] {
+    let row = Row {
+        id,
+        kind: 1,
+        committed: 100,
+        metered: 60,
+        ..Row::default()
+    };
+    row.words()
+}
+
+/// So many accounts; the first so many of them have a row.
+fn plain(accounts: usize, rows: usize) -> SettleCase {
+    let ids = rising(accounts);
+    let rows = rising(rows).into_iter().map(short_row).collect();
+    let file = IntervalFile::new(NET_CONE, DAYS, 1_000, rows, Vec::new());
+    settling_of(&ids, file)
+}
+
+/// A case with a change.
+fn with(case: &SettleCase, change: impl FnOnce(&mut SettleCase)) -> SettleCase {
+    let mut changed = case.clone();
+    change(&mut changed);
+    changed
+}
+
+/// The listing with each bit of its ledger and of its file turned.
+fn single_bits(rng: &mut Rng) -> Vec<Call<2>> {
+    let call = listing().call(rng);
+    let (in_ledger, in_file) = (8 * call.ledger.len(), 8 * call.file.len());
+    let turned = |bit: usize| {
+        let mut turned = call.clone();
+        match bit.checked_sub(in_ledger) {
+            None => turned.ledger[bit / 8] ^= 1 << (bit % 8),
+            Some(bit) => turned.file[bit / 8] ^= 1 << (bit % 8),
+        }
+        turned.into()
+    };
+    (0..in_ledger + in_file).map(turned).collect()
+}
+
+// ---------------------------------------------------------------- random calls
+
+fn random(rng: &mut Rng, number: u64) -> Call<2> {
+    let size = some_size(rng);
+    let call = match number % 16 {
+        kind @ 0..=10 => settle_call_for(rng, &size, 6 + kind as u32),
+        11 if rng.one_in(4) => long_settle(rng, &size),
+        11 => broken(rng, &size, |call| &mut call.ledger),
+        12 => broken(rng, &size, |call| &mut call.file),
+        13 => any_file(rng),
+        14 => any_ledger(rng),
+        _ => any_words(rng),
+    };
+    call.into()
+}
+
+/// Mostly a small one.
+fn some_size(rng: &mut Rng) -> Size {
+    match rng.below(32) {
+        0 => FULL,
+        1..=4 => MIDDLE,
+        _ => SMALL,
+    }
+}
+
+/// A call with some bits of a buffer turned, or its end cut off or set to any bytes.
+fn broken(rng: &mut Rng, size: &Size, buffer: fn(&mut SettleCall) -> &mut Vec<u8>) -> SettleCall {
+    let mut call = valid_settle(rng, size).call(rng);
+    let bytes = buffer(&mut call);
+    match rng.below(4) {
+        0 => cut(rng, bytes),
+        1 => scramble(rng, bytes),
+        _ => flip(rng, bytes),
+    }
+    call
+}
+
+/// A file of any bytes, its first words often those of a file to accept.
+fn any_file(rng: &mut Rng) -> SettleCall {
+    let mut call = valid_settle(rng, &SMALL).call(rng);
+    let length = rng.pick(&[0, 40, 96, 49_110]) + rng.index(60);
+    let right = rng.pick(&[0, 4, 16, 24, 28, 32, 40]);
+    let head: Vec<u8> = call.file.iter().copied().take(right).collect();
+    call.file = rng.bytes(length);
+    for (byte, value) in call.file.iter_mut().zip(head) {
+        *byte = value;
+    }
+    call
+}
+
+/// A ledger of any bytes, its first words often those of a ledger to accept.
+fn any_ledger(rng: &mut Rng) -> SettleCall {
+    let mut call = valid_settle(rng, &SMALL).call(rng);
+    let right = rng.pick(&[0, 8, 24, 40, 64, 96]).min(call.ledger.len());
+    let length = rng.index(call.ledger.len() + 60).max(right);
+    let rest = rng.bytes(length - right);
+    call.ledger.truncate(right);
+    call.ledger.extend(rest);
+    call
+}
+
+/// The listing with words near their bounds, any of them at once.
+fn any_words(rng: &mut Rng) -> SettleCall {
+    let mut case = listing();
+    let end = case.file.length as u32;
+    for (word, bounds) in [
+        (1, &[0, 1_000, 105_119][..]),
+        (4, &[0, 1]),
+        (5, &[0, 40_000_000, 0u32.wrapping_sub(40_000_000)]),
+        (6, &[1, 4, 512]),
+        (7, &[40, end]),
+        (8, &[0, 6, 2_048]),
+        (9, &[40, 264, end]),
+    ] {
+        if rng.one_in(12) {
+            case.file.head[word] = near(rng, bounds);
+        }
+    }
+    case.ledger.words[3] = rng.pick(&[0, 999, 1_000, 1_000, 1_001]);
+    case.result_length = needed(4) - 2 + rng.pick(&[0, 1, 2, 2, 2, 3, 40]);
+    let mut call = case.call(rng);
+    let kw: u32 = 4_000_000;
+    let bounds = [0, 1, 2, 4, 10, kw, 0u32.wrapping_sub(kw), 1_000_000, 3_000];
+    for _ in 0..rng.below(4) {
+        let at = 40 + 4 * rng.index((call.file.len() - 40) / 4);
+        let word = near(rng, &bounds);
+        put_words(&mut call.file, at, &[word]);
+    }
+    call
+}
+
+/// One of the bounds, or up to 2 off.
+fn near(rng: &mut Rng, bounds: &[u32]) -> u32 {
+    let off = rng.between(-2, 2) as u32;
+    rng.pick(bounds).wrapping_add(off)
+}
+
+/// The reference's answer.
+#[cfg(test)]
+fn answer(case: &SettleCase) -> u32 {
+    let mut call = case.call(&mut Rng::new(1));
+    reference::settle(&mut call.ledger, &call.file, &mut call.result)
+}
+
+#[cfg(test)]
+mod tests {
+    use super::*;
+
+    #[test]
+    fn the_base_cases_are_accepted() {
+        assert_eq!(answer(&listing()), 0);
+        assert_eq!(answer(&plain(1, 1)), 0);
+        assert_eq!(answer(&plain(512, 512)), 0);
+    }
+}

@@ -1,0 +1,126 @@
+//! Faults of every ground, one and two at a time, for the order of the grounds.
+
+use super::ledger_bounds::full_pool;
+use super::needed;
+use npa_tests::random::SettleCase;
+
+/// A fault that makes a settling with a full pool one to refuse on this ground.
+type Fault = (u32, fn(&mut SettleCase));
+
+/// A word of a row.
+fn row(case: &mut SettleCase, row: usize, word: usize) -> &mut u32 {
+    &mut case.file.rows[row][word]
+}
+
+/// Sets a word, unless another fault has set it higher.
+fn raise(word: &mut u64, value: u64) {
+    *word = value.max(*word);
+}
+
+const LEDGER: [Fault; 13] = [
+    (6, |case| case.ledger.length = 0),
+    (6, |case| case.ledger.length = 63),
+    (6, |case| case.ledger.length = 191),
+    (6, |case| case.ledger.words[0] = 2),
+    (6, |case| case.ledger.words[1] += 1),
+    (6, |case| case.ledger.words[2] += 1),
+    (6, |case| case.ledger.words[3] = 288 * 366 + 1),
+    (6, |case| case.ledger.words[5] = 5),
+    (6, |case| case.ledger.words[6] = 9),
+    (6, |case| case.ledger.words[7] = 1),
+    (6, |case| case.ledger.accounts[0][0] = 0),
+    (6, |case| case.ledger.accounts[3][1] = 4_000_001),
+    (6, |case| case.ledger.accounts[2][3] += 1),
+];
+
+const FILE: [Fault; 21] = [
+    (7, |case| case.file.length = 0),
+    (7, |case| case.file.length = 39),
+    (7, |case| case.file.length = 49_153),
+    (7, |case| case.file.head[0] = 2),
+    (8, |case| case.file.head[2] -= 1),
+    (8, |case| case.file.head[3] = 365),
+    (9, |case| case.file.head[1] = 288 * 366),
+    (9, |case| case.file.head[4] = 2),
+    (9, |case| case.file.head[5] = 40_000_001),
+    (10, |case| raise(&mut case.ledger.words[3], 1_001)),
+    (10, |case| raise(&mut case.ledger.words[3], 288 * 366)),
+    (11, |case| case.file.head[6] = 0),
+    (11, |case| case.file.head[6] = 513),
+    (11, |case| case.file.head[7] = 39),
+    (11, |case| case.file.head[7] = 41),
+    (11, |case| case.file.head[8] = 2_049),
+    (11, |case| case.file.head[9] = 0xffff_ffd0),
+    (11, |case| case.file.head[9] = 265),
+    (15, |case| case.result_length = 0),
+    (15, |case| case.result_length = needed(4) - 1),
+    (16, |case| {
+        case.ledger.accounts[1][2] += 1;
+        case.ledger.words[4] += 1;
+    }),
+];
+
+const ROWS: [Fault; 20] = [
+    (12, |case| *row(case, 0, 0) = 10),
+    (12, |case| *row(case, 1, 0) = 11),
+    (12, |case| *row(case, 2, 0) = 12),
+    (12, |case| *row(case, 3, 0) = 15),
+    (13, |case| *row(case, 0, 1) = 5),
+    (13, |case| *row(case, 0, 2) = 4_000_001),
+    (13, |case| *row(case, 1, 4) = 4_000_001),
+    (13, |case| *row(case, 1, 9) = 25_001),
+    (13, |case| *row(case, 2, 10) = 2),
+    (13, |case| *row(case, 2, 2) = 1),
+    (13, |case| *row(case, 3, 11) = 1_000_001),
+    (13, |case| *row(case, 3, 7) = u32::MAX),
+    (14, |case| *row(case, 0, 13) = 11),
+    (14, |case| *row(case, 0, 12) = 5),
+    (14, |case| case.file.points[1][0] = 999),
+    (14, |case| *row(case, 1, 12) = u32::MAX),
+    (14, |case| case.file.points[3][1] = 9_999),
+    (14, |case| *row(case, 2, 12) = 6),
+    (14, |case| case.file.points[5][1] = 4_000_001),
+    (14, |case| *row(case, 3, 13) = 11),
+];
+
+/// All faults.
+fn faults() -> Vec<Fault> {
+    [&LEDGER[..], &FILE, &ROWS].concat()
+}
+
+/// Every two faults together; also each of them with itself, alone.
+pub fn cases() -> Vec<SettleCase> {
+    let mut cases = Vec::new();
+    for (_, first) in faults() {
+        for (_, second) in faults() {
+            let mut case = full_pool();
+            first(&mut case);
+            second(&mut case);
+            cases.push(case);
+        }
+    }
+    cases
+}
+
+#[cfg(test)]
+mod tests {
+    use super::super::answer;
+    use super::*;
+
+    #[test]
+    fn each_fault_has_its_ground_and_the_first_of_two_counts() {
+        assert_eq!(answer(&full_pool()), 0);
+        for (index, (ground, fault)) in faults().iter().enumerate() {
+            let mut case = full_pool();
+            fault(&mut case);
+            assert_eq!(answer(&case), *ground, "{index}");
+        }
+        let cases = cases();
+        for (first, one) in faults().iter().enumerate() {
+            for (second, other) in faults().iter().enumerate() {
+                let case = &cases[first * faults().len() + second];
+                assert_eq!(answer(case), one.0.min(other.0), "{first} {second}");
+            }
+        }
+    }
+}

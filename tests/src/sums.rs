@@ -1,0 +1,181 @@
+//! The sums of a year, as document 01 takes them from the results of accepted calls.
+
+use crate::layout::{long_at, word_at};
+use std::collections::BTreeMap;
+
+/// An accepted call: its file and the bytes around it.
+pub struct Accepted<'a> {
+    pub before: &'a [u8],
+    pub file: &'a [u8],
+    pub ledger: &'a [u8],
+    pub result: &'a [u8],
+}
+
+/// What an accepted call gave one row.
+struct GivenRow {
+    id: u32,
+    committed: u128,
+    shortfall: u128,
+    bonus: u128,
+    charge: u128,
+    credit: u128,
+}
+
+/// What the accepted calls of a year gave one plant.
+#[derive(Default)]
+struct Plant {
+    commitment: u128,
+    charges: u128,
+    credits: u128,
+}
+
+/// The sums of a year so far.
+#[derive(Default)]
+pub struct Sums {
+    /// By the ids of the opening block.
+    plants: BTreeMap<u32, Plant>,
+    pub charges: u128,
+    pub credits: u128,
+    /// Charges that a limit has cut.
+    pub cut_charges: u64,
+}
+
+/// A 64-bit word of a ledger or result.
+fn word(bytes: &[u8], word: usize) -> u128 {
+    long_at(bytes, word).expect("the word is there").into()
+}
+
+/// A 32-bit word of a block or file.
+fn short_word(bytes: &[u8], at: usize) -> u32 {
+    word_at(bytes, at).expect("the word is there")
+}
+
+/// The limit by the ledger's terms.
+fn limit(ledger: &[u8], commitment: u128) -> u128 {
+    3 * word(ledger, 1) * word(ledger, 2) * commitment / 2000
+}
+
+/// Says what does not hold.
+fn hold(holds: bool, what: &str) -> Result<(), String> {
+    if holds {
+        Ok(())
+    } else {
+        Err(format!("sums of the year: {what}"))
+    }
+}
+
+impl Accepted<'_> {
+    /// The rows as the result gives them.
+    fn rows(&self) -> Vec<GivenRow> {
+        let count = short_word(self.file, 24) as usize;
+        let rows_at = short_word(self.file, 28) as usize;
+        let row = |index: usize| {
+            let at = rows_at + 56 * index;
+            let figure = |number: usize| word(self.result, 8 + 8 * index + number);
+            GivenRow {
+                id: short_word(self.file, at),
+                committed: short_word(self.file, at + 8).into(),
+                shortfall: figure(4),
+                bonus: figure(5),
+                charge: figure(6),
+                credit: figure(7),
+            }
+        };
+        (0..count).map(row).collect()
+    }
+
+    /// The full charge of a shortfall.
+    fn full_charge(&self, shortfall: u128) -> u128 {
+        shortfall * word(self.ledger, 1) * word(self.ledger, 2) / 360_000
+    }
+
+    /// Holds the interval's words and the cents carried to the sums over its rows.
+    fn interval_holds(&self, rows: &[GivenRow]) -> Result<(), String> {
+        let sum = |figure: fn(&GivenRow) -> u128| rows.iter().map(figure).sum::<u128>();
+        let charges = sum(|row| row.charge);
+        let credits = sum(|row| row.credit);
+        let bonus = sum(|row| row.bonus);
+        let with_bonus = sum(|row| u128::from(row.bonus > 0));
+        let carried = word(self.ledger, 4);
+        let told: [u128; 4] = std::array::from_fn(|index| word(self.result, 1 + index));
+        hold(
+            told == [charges, credits, carried, bonus],
+            "result words 1 to 4",
+        )?;
+        hold(word(self.result, 7) == rows.len() as u128, "result word 7")?;
+        hold(
+            word(self.before, 4) + charges == credits + carried,
+            "the pool",
+        )?;
+        hold(bonus == 0 || carried < with_bonus, "a rest that is shared")?;
+        hold(bonus > 0 || credits == 0, "a credit without bonus")?;
+        let next = u128::from(short_word(self.file, 4)) + 1;
+        hold(word(self.ledger, 3) == next, "the earliest interval")
+    }
+}
+
+impl Sums {
+    /// A year without calls, for the plants of an accepted opening block.
+    pub fn of(block: &[u8]) -> Self {
+        let ids_at = short_word(block, 16) as usize;
+        let plant = |index: usize| (short_word(block, ids_at + 4 * index), Plant::default());
+        Sums {
+            plants: (0..short_word(block, 12) as usize).map(plant).collect(),
+            ..Sums::default()
+        }
+    }
+
+    /// Adds the rows of an accepted call; what does not hold then, if anything.
+    pub fn add(&mut self, call: &Accepted) -> Result<(), String> {
+        let rows = call.rows();
+        for row in &rows {
+            self.add_row(call, row)?;
+        }
+        call.interval_holds(&rows)?;
+        self.check(call.ledger)
+    }
+
+    /// Adds one row to its plant.
+    fn add_row(&mut self, call: &Accepted, row: &GivenRow) -> Result<(), String> {
+        let full = call.full_charge(row.shortfall);
+        hold(row.charge <= full, "a charge above the full one")?;
+        hold(
+            row.shortfall == 0 || row.bonus == 0,
+            "a row with shortfall and bonus",
+        )?;
+        let Some(plant) = self.plants.get_mut(&row.id) else {
+            return hold(false, "a row that the opening block does not have");
+        };
+        plant.commitment = plant.commitment.max(row.committed);
+        plant.charges += row.charge;
+        plant.credits += row.credit;
+        let most = limit(call.ledger, plant.commitment);
+        hold(plant.charges <= most, "a plant above its limit")?;
+        hold(
+            row.charge == full || plant.charges == most,
+            "a charge cut for nothing",
+        )?;
+        self.cut_charges += u64::from(row.charge < full);
+        self.charges += row.charge;
+        self.credits += row.credit;
+        Ok(())
+    }
+
+    /// Holds a ledger, as the calls so far leave it, to the sums.
+    pub fn check(&self, ledger: &[u8]) -> Result<(), String> {
+        let accounts = word(ledger, 5) as usize;
+        hold(accounts == self.plants.len(), "the number of accounts")?;
+        for (index, (id, plant)) in self.plants.iter().enumerate() {
+            let account: [u128; 4] = std::array::from_fn(|i| word(ledger, 8 + 4 * index + i));
+            let rows = [
+                u128::from(*id),
+                plant.commitment,
+                plant.charges,
+                plant.credits,
+            ];
+            hold(account == rows, "an account")?;
+        }
+        let closes = self.charges == self.credits + word(ledger, 4);
+        hold(closes, "charges and credits do not close")
+    }
+}
