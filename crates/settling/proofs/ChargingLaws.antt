@@ -3,28 +3,28 @@ use Prim.Native.Nat.{ℕ, _+_, _*_, _≤_, _<_, _^_}
 use mathlib.Core.Path.{_≡_, refl, sym, ap, ap₂, subst, _∙_}
 use mathlib.Core.Logic.{_≢_}
 use mathlib.Core.List.{List, [], _∷_, _++_, map, append-assoc, append-nil}
-use mathlib.Core.Bool.{Bool, true, false, cond, not, _||_, true≢false}
+use mathlib.Core.Bool.{Bool, true, false, cond, not, true≢false}
 use native.Mathlib.Omega.{arith}
 use lib.ListN.{length, take, drop, length-append}
 use lib.Seq.{sets, sets-eq, length-sets, take-at, take-all, length-take-le}
 use lib.Dec.{ltb}
 use borrow.Author.Tests.{ltb-true, ltb-false, ne-eqb}
 use borrow.Rule.Slice.PartAt.{part-to-end}
-use Rattle.words.specs.Lists.{any, risesAbove, rises}
+use Rattle.words.specs.Lists.{any}
 use Rattle.words.specs.Words.{word32}
 use Rattle.words.proofs.Tests.{not-first, not-second}
 use Rattle.reading.specs.Block.{Terms}
 use Rattle.reading.specs.Interval.{rowBytes, Row, headerOf, rowAt, rowOf, rowsOf, rowOutside}
-use Rattle.reading.proofs.Bounds.{terms-in, ids-rise, RowIn, row-in}
+use Rattle.reading.proofs.Bounds.{terms-in, RowIn, row-in}
 use Rattle.reading.proofs.Walk.{rowPart, rowsLeft, rows-start, rows-turn, rows-end}
 use Rattle.assessment.specs.Assessment.{considered, ifConsidered, Ratio, ratioOf, shortfall, expected, RowFigures, rowFigures, Account, raised, limit, fullCharge, charge, ChargedRow, chargedRow, assessed}
 use Rattle.assessment.proofs.SumLaws.{partFrom, part-length, curve-within, fails, fails-start, fails-turn}
 use Rattle.assessment.proofs.Promises.{figures-in}
-use Rattle.ledger.specs.Ledger.{ledgerBytes, accountAt, accountCount, ledgerOf, idsIn, accountOutside}
-use Rattle.settling.specs.Settling.{assessedFile, rowIdsUnknown}
+use Rattle.ledger.specs.Ledger.{ledgerBytes, accountAt, accountCount, ledgerOf, accountOutside}
+use Rattle.settling.specs.Settling.{assessedFile}
 use Rattle.settling.specs.Scratch.{Passed, chargedWords}
-use Rattle.settling.proofs.Beside.{unmatched, unknown, met, passed-by, missed, none-left, by-order, walked}
-use Rattle.settling.proofs.Meeting.{accountIds, rowIds, chargedTo, chargedBeside, charged-met, charged-passed, charged-own}
+use Rattle.settling.proofs.Beside.{unmatched, met, passed-by, missed, none-left, by-order}
+use Rattle.settling.proofs.Meeting.{accountIds, rowIds, chargedTo, chargedBeside, charged-met, charged-passed, charged-own, accounts-rise, all-meet}
 use Rattle.ledger.proofs.Accounts.{accountPart, accountsLeft, accounts-start, accounts-turn, accounts-end}
 use Rattle.ledger.proofs.Sound.{account-in}
 
@@ -95,25 +95,6 @@ unfolding any
 none-turn p x xs all e none =
     let both = sym (ap (any p) e) ∙ none in
     (not-first (p x) (any p xs) both, not-second (p x) (any p xs) both)
-
--- a test of what rows are mapped to
-any-map : {A B : Type 0} (p : B → Bool) (g : A → B) (xs : List A) → any p (map g xs) ≡ any (λ x. p (g x)) xs
-unfolding any
-any-map p g [] = refl
-any-map p g (x ∷ xs) = ap (λ t. p (g x) || t) (any-map p g xs)
-
--- ids of accounts that ground 6 does not refuse rise
-accounts-rise : (ledger file : List ℕ) → Passed ledger file → risesAbove 0 (accountIds (ledgerOf ledger .accounts)) ≡ true
-unfolding idsIn
-accounts-rise ledger file p = ids-rise (idsIn (ledgerOf ledger)) (p .ids)
-
--- and each row meets one of them
-all-meet : (ledger file : List ℕ) → Passed ledger file → unmatched (accountIds (ledgerOf ledger .accounts)) (rowIds (rowsOf file)) ≡ false
-unfolding rowIdsUnknown idsIn
-all-meet ledger file p =
-    sym (walked 0 (accountIds (ledgerOf ledger .accounts)) (rowIds (rowsOf file)) (accounts-rise ledger file p))
-    ∙ ap (λ t. not (rises (rowIds (rowsOf file))) || t) (any-map (unknown (accountIds (ledgerOf ledger .accounts))) (λ r. r .id) (rowsOf file))
-    ∙ p .known
 
 -- the terms of a ledger
 abbrev termsOf : List ℕ → Terms

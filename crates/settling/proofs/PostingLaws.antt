@@ -2,7 +2,7 @@
 use Prim.Native.Nat.{ℕ, zero, suc, _+_, _-_, _*_, _≤_, _<_, _^_}
 use mathlib.Core.Path.{_≡_, refl, sym, ap, ap₂, _∙_}
 use mathlib.Core.List.{List, [], _∷_, _++_, map, append-nil}
-use mathlib.Core.Bool.{Bool, true, false, not, _||_, _&&_}
+use mathlib.Core.Bool.{Bool, true, false, not, _&&_}
 use native.Mathlib.Omega.{arith}
 use borrow.Author.Tests.{lt-ltb, le-ltb, ltb-true, ltb-false}
 use borrow.Rule.Slice.PartAt.{part-to-end}
@@ -10,23 +10,23 @@ use borrow.Rule.Slice.PartMut.{putMid}
 use lib.ListN.{length, take, drop, getD, length-map, length-drop, drop-of-length-le, List·getD-append}
 use lib.Seq.{drop-drop, drop-at, getD-drop, length-take-le}
 use lib.Dec.{ltb, eqb}
-use Rattle.words.specs.Lists.{any, risesAbove, rises}
+use Rattle.words.specs.Lists.{any}
 use Rattle.words.specs.Words.{word32, entries, bytesOfWords, written, writtenAt}
 use Rattle.words.proofs.Tests.{first-holds, second-holds, not-first, not-second}
 use Rattle.words.proofs.Words.{length-bytesOfWords}
 use Rattle.words.proofs.Access.{write-more, write-none, written-at-zero, length-writtenAt}
 use Rattle.reading.specs.Interval.{rowBytes, Row, headerOf, rowAt, rowOf, rowsOf}
-use Rattle.reading.proofs.Bounds.{terms-in, ids-rise, length-rows}
+use Rattle.reading.proofs.Bounds.{terms-in, length-rows}
 use Rattle.reading.proofs.Walk.{rowPart, rowsLeft, rows-start, rows-turn, rows-end}
 use Rattle.assessment.specs.Assessment.{Account, raised, ChargedRow, chargedRow, Assessed, assessed, ratioOf, credit}
 use Rattle.assessment.proofs.Limits.{mostLimit, limit-le}
 use Rattle.assessment.proofs.SumLaws.{partFrom}
-use Rattle.ledger.specs.Ledger.{ledgerHeaderBytes, accountBytes, mostCents, mostCredited, accountAt, accountCount, ledgerOf, accountWords, idsIn, accountOutside}
-use Rattle.settling.specs.Settling.{rowWords, assessedFile, rowIdsUnknown, posted, postedAll}
+use Rattle.ledger.specs.Ledger.{ledgerHeaderBytes, accountBytes, mostCents, mostCredited, accountAt, accountCount, ledgerOf, accountWords, accountOutside}
+use Rattle.settling.specs.Settling.{rowWords, assessedFile, posted, postedAll}
 use Rattle.settling.specs.Scratch.{Passed}
 use Rattle.ledger.proofs.Accounts.{accountPart, accountsLeft, accounts-start, accounts-turn, accounts-end}
-use Rattle.settling.proofs.Beside.{unmatched, unknown, walked}
-use Rattle.settling.proofs.Meeting.{accountIds, rowIds, chargedIds, postedBeside, posted-met, posted-passed, posted-rest, posted-own}
+use Rattle.settling.proofs.Beside.{unmatched, walked}
+use Rattle.settling.proofs.Meeting.{accountIds, rowIds, chargedIds, postedBeside, posted-met, posted-passed, posted-rest, posted-own, accounts-rise, all-meet}
 use Rattle.ledger.proofs.Sound.{account-in}
 use Rattle.settling.proofs.SettledLaws.{length-row-words}
 
@@ -118,25 +118,6 @@ row-word v charged size read k low (suc n) b (suc i) h =
     ∙ sym (getD-drop 8 all (8 * i + k) 0)
     ∙ row-word v charged size read k low n (drop size b) i (omega arith)
     ∙ ap (λ d. getD (rowWords v (charged (read d) ∷ [])) k 0) (drop-drop (size * i) size b ∙ ap (λ k. drop k b) next)
-
--- a test of what members are mapped to
-any-map : {A B : Type 0} (p : B → Bool) (g : A → B) (xs : List A) → any p (map g xs) ≡ any (λ x. p (g x)) xs
-unfolding any
-any-map p g [] = refl
-any-map p g (x ∷ xs) = ap (λ t. p (g x) || t) (any-map p g xs)
-
--- ids of accounts that ground 6 does not refuse rise
-pub accounts-rise : (ledger file : List ℕ) → Passed ledger file → risesAbove 0 (accountIds (ledgerOf ledger .accounts)) ≡ true
-unfolding idsIn
-accounts-rise ledger file p = ids-rise (idsIn (ledgerOf ledger)) (p .ids)
-
--- and each row meets one of them
-pub all-meet : (ledger file : List ℕ) → Passed ledger file → unmatched (accountIds (ledgerOf ledger .accounts)) (rowIds (rowsOf file)) ≡ false
-unfolding rowIdsUnknown idsIn
-all-meet ledger file p =
-    sym (walked 0 (accountIds (ledgerOf ledger .accounts)) (rowIds (rowsOf file)) (accounts-rise ledger file p))
-    ∙ ap (λ t. not (rises (rowIds (rowsOf file))) || t) (any-map (unknown (accountIds (ledgerOf ledger .accounts))) (λ r. r .id) (rowsOf file))
-    ∙ p .known
 
 -- four words that are an account's
 pub account-is : (id largest charged credited : ℕ) (a : Account) → (id ≡ a .id) × (largest ≡ a .largest) × (charged ≡ a .charged) × (credited ≡ a .credited)

@@ -1,7 +1,7 @@
 -- What the tests that settling makes, one after the other, say of its answer.
 use Prim.Native.Nat.{ℕ, zero, suc, _+_, _*_, _≤_, _<_}
 use mathlib.Core.Path.{_≡_, refl, sym, ap, ap₂, _∙_}
-use mathlib.Core.List.{List, [], _∷_, map}
+use mathlib.Core.List.{List, [], _∷_}
 use mathlib.Core.Bool.{Bool, true, false, cond, not, _||_, true≢false}
 use native.Mathlib.Omega.{arith}
 use lib.ListN.{length, take, drop}
@@ -22,7 +22,7 @@ use Rattle.settling.specs.Settling.{resultHeaderBytes, resultRowBytes, a
 use Rattle.settling.specs.Scratch.{Passed}
 use Rattle.ledger.proofs.Accounts.{accountPart, accountsLeft, accounts-start, accounts-turn, accounts-end}
 use Rattle.settling.proofs.Beside.{unmatched, unknown, met, passed-by, missed, none-left, all-met, walked}
-use Rattle.settling.proofs.Meeting.{accountIds, rowIds}
+use Rattle.settling.proofs.Meeting.{accountIds, rowIds, any-map}
 use Rattle.settling.proofs.SettlingAnswers.{settledAnswer, settling-accepts, settling-refuses}
 use Rattle.ledger.proofs.Sound.{ledger-in, ledger-room, length-accounts}
 
@@ -78,12 +78,6 @@ module _ (l f : List ℕ) (cone ours : ℕ) (e : cone ≡ word32 f 2) (k : ours 
   pub days-decide : cone ≡ ours → (days same : ℕ) → days ≡ word32 f 3 → same ≡ word64 l 2 → otherTerms l f ≡ not (eqb days same)
   unfolding otherTerms headerOf ledgerOf
   days-decide h days same d m = rw (← e, ← k, ← d, ← m, eq-eqb cone ours h)
-
--- a test of a figure of each member
-any-map : {A B : Type 0} (p : B → Bool) (g : A → B) (xs : List A) → any p (map g xs) ≡ any (λ x. p (g x)) xs
-unfolding any
-any-map p g [] = refl
-any-map p g (x ∷ xs) = ap (λ t. p (g x) || t) (any-map p g xs)
 
 -- the id of row i, read from the part of the file that it begins
 pub row-id : (f : List ℕ) (i id first : ℕ) → first ≡ headerOf f .rowsOffset → id ≡ word32 (partFrom f (first + rowBytes * i)) 0 → id ≡ rowOf f (rowPart f i) .id
