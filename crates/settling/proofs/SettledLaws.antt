@@ -1,5 +1,5 @@
 -- What an accepted file makes of the scratch, the result and the ledger, from what the definitions say of its interval.
-use Prim.Native.Nat.{ℕ, zero, suc, _+_, _-_, _*_, _/_, _^_, _≤_, _<_, max}
+use Prim.Native.Nat.{ℕ, zero, suc, _+_, _-_, _*_, _^_, _≤_, _<_, max}
 use mathlib.Core.Path.{_≡_, refl, sym, ap, ap₂, _∙_, subst}
 use mathlib.Core.List.{List, [], _∷_, _++_, map, append-assoc, List·Memᴰ, List·Memᴰ·head, List·Memᴰ·tail, Memᴰ·of-map}
 use mathlib.Core.Bool.{Bool, true, false, cond}
@@ -14,9 +14,9 @@ use Rattle.words.proofs.Lists.{sum-most, member-le, none-passes}
 use Rattle.words.proofs.Access.{words-append}
 use Rattle.words.proofs.Tests.{not-first, not-second}
 use Rattle.reading.specs.Block.{Terms}
-use Rattle.reading.specs.Interval.{mostKilowatts, mostRows, Header, Row, headerOf, rowsOf, rowOutside}
-use Rattle.reading.proofs.Bounds.{TermsIn, terms-in, HeaderIn, header-in, RowIn, row-in, length-rows}
-use Rattle.assessment.specs.Assessment.{Ratio, ratioOf, numerator, denominator, portion, printedRatio, ifConsidered, Account, accountOf, raised, limit, charge, rowFigures, ChargedRow, chargedRow, Assessed, assessed, charges, totalBonus, pool, share, credit, credits, carriedOn}
+use Rattle.reading.specs.Interval.{mostKilowatts, mostRows, Row, headerOf, rowsOf, rowOutside}
+use Rattle.reading.proofs.Bounds.{terms-in, header-in, RowIn, row-in, length-rows}
+use Rattle.assessment.specs.Assessment.{ratioOf, numerator, denominator, portion, printedRatio, Account, accountOf, raised, charge, rowFigures, ChargedRow, chargedRow, Assessed, assessed, charges, totalBonus, pool, share, credit, credits, carriedOn}
 use Rattle.assessment.proofs.Promises.{if-le, FiguresIn, figures-in, numerator-le}
 use Rattle.assessment.proofs.Limits.{limit-le, charge-le, mostLimit}
 use Rattle.assessment.proofs.Shares.{credits-le, credit-is-share}

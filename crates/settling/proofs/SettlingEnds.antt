@@ -2,7 +2,7 @@
 use Prim.Native.Nat.{ℕ, _≤_, _<_}
 use mathlib.Core.Path.{_≡_, refl, sym, ap, _∙_}
 use mathlib.Core.List.{List}
-use mathlib.Core.Bool.{true, false}
+use mathlib.Core.Bool.{false}
 use lib.ListN.{take}
 use borrow.Author.Tests.{lt-ltb, le-ltb, ne-eqb}
 use Rattle.words.specs.Lists.{any}

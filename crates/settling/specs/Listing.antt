@@ -2,7 +2,7 @@
 use Prim.Native.Nat.{ℕ, _+_, _*_, _/_}
 use mathlib.Core.Path.{_≡_}
 use mathlib.Core.List.{List, [], _∷_, _++_}
-use lib.ListN.{length, replicate, take, drop}
+use lib.ListN.{length, take, drop}
 use Rattle.words.specs.Words.{word64, bytesOfWords}
 use Rattle.words.specs.Figures.{Figure, _gives_, AllAsStated}
 use Rattle.ledger.specs.Figures.{buffer, openedListing, ledgerWith}

@@ -1,6 +1,6 @@
 -- `settling::call::write_settled` meets its contract. The credits, their sum, the result, then the ledger; each figure is that of the interval.
 use Prim.Native.Nat.{_≤_, _^_}
-use mathlib.Core.Path.{_≡_, sym, ap, _∙_, subst}
+use mathlib.Core.Path.{_≡_, sym, _∙_, subst}
 use native.Mathlib.Omega.{arith}
 use lib.ListN.{getD}
 use Rattle.reading.specs.Interval.{headerOf}
