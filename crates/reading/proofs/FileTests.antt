@@ -1,8 +1,8 @@
 -- What each test that the code makes says of grounds 7, 9 and 11.
 use Prim.Native.Nat.{ℕ, _+_, _-_, _*_, _≤_, _<_}
-use mathlib.Core.Path.{_≡_, ap, _∙_}
+use mathlib.Core.Path.{_≡_, sym, ap, _∙_}
 use mathlib.Core.List.{List}
-use mathlib.Core.Bool.{true, false, not}
+use mathlib.Core.Bool.{Bool, true, false, not}
 use native.Mathlib.Omega.{arith}
 use borrow.Author.Tests.{lt-ltb, le-ltb, le-leb, lt-leb}
 use lib.ListN.{length}
@@ -26,6 +26,10 @@ module _ (most w : ℕ) where
   beyond-high low high =
       let size : natAbs (pos w -ℤ pos 4294967296) ≡ 4294967296 - w = ap natAbs (less-2^32 w high) ∙ omega arith in
       rw (le-ltb w 2147483648 low) (ap (ltb most) size)
+
+-- a test of a word, once it is known which word it is
+pub beyond-of : (most : ℕ) {w v : ℕ} {t u : Bool} → w ≡ v → t ≡ beyond most (signed w) → t ≡ u → beyond most (signed v) ≡ u
+beyond-of most is tests gave = ap (λ w. beyond most (signed w)) (sym is) ∙ sym tests ∙ gave
 
 -- ground 7
 module _ (f : List ℕ) where

@@ -2,6 +2,7 @@
 
 use words::signed;
 use words::word32;
+use words::word32_or_zero;
 ghost use mathlib.Core.Path.{_≡_};
 ghost use mathlib.Core.List.{_∷_, [], map};
 ghost use mathlib.Core.Bool.{not, _||_, _&&_};
@@ -115,12 +116,20 @@ pub fn signed_word(part: &[u8], k: usize) -> i64
     signed(word(part, k))
 }
 
-// Whether word k of a part of a file, as a signed number, lies outside -most to most.
-fn beyond(part: &[u8], k: usize, most: u64) -> bool
-    requires { ⌜ 4 * k + 4 ≤ length (now part) ⌝ }
-    ensures { λ r. ⌜ r ≡ beyondOf most (signedOf (wordOf (now (part .entry)) k)) ⌝ }
+// Word k of the header; bytes past the file's end count as 0.
+fn header_word(file: &[u8], k: usize) -> u64
+    requires { ⌜ k < 10 ⌝ }
+    ensures { λ r. ⌜ r ≡ wordOf (now (file .entry)) k ⌝ }
+    ensures { λ r. ⌜ r < 4294967296 ⌝ }
 {
-    let w = word(part, k);
+    word32_or_zero(file, 4 * k)
+}
+
+// Whether a word, as a signed number, lies outside -most to most.
+fn beyond(w: u64, most: u64) -> bool
+    requires { ⌜ w < 4294967296 ⌝ }
+    ensures { λ r. ⌜ r ≡ beyondOf most (signedOf w) ⌝ }
+{
     if w < 0x8000_0000 {
         return most < w;
     }
@@ -142,17 +151,16 @@ pub fn not_a_file(file: &[u8]) -> bool
 
 // Ground 9.
 pub fn header_outside(file: &[u8]) -> bool
-    requires { ⌜ 40 ≤ length (now file) ⌝ }
     ensures { λ r. ⌜ r ≡ headerOutside (headerOf (now (file .entry))) ⌝ }
 {
-    let end = INTERVALS_PER_DAY * word(file, DAYS);
-    if end <= word(file, INTERVAL) {
+    let end = INTERVALS_PER_DAY * header_word(file, DAYS);
+    if end <= header_word(file, INTERVAL) {
         return true;
     }
-    if 1 < word(file, REGION_WIDE) {
+    if 1 < header_word(file, REGION_WIDE) {
         return true;
     }
-    beyond(file, IMPORTS, MOST_IMPORTS)
+    beyond(header_word(file, IMPORTS), MOST_IMPORTS)
 }
 
 // Whether so many bytes at an offset leave bytes 40 to the file's end.
@@ -187,26 +195,25 @@ fn share(a: u64, m: u64, b: u64, n: u64) -> bool
 
 // Ground 11. The numbers are tested first, so that the tables' sizes are small.
 pub fn tables_misplaced(file: &[u8]) -> bool
-    requires { ⌜ 40 ≤ length (now file) ⌝ }
     ensures { λ r. ⌜ r ≡ tablesMisplaced (now (file .entry)) ⌝ }
 {
-    let rows = word(file, ROWS);
+    let rows = header_word(file, ROWS);
     if rows < 1 {
         return true;
     }
     if MOST_ROWS < rows {
         return true;
     }
-    let points = word(file, POINTS);
+    let points = header_word(file, POINTS);
     if MOST_POINTS < points {
         return true;
     }
-    let a = word(file, ROWS_OFFSET);
+    let a = header_word(file, ROWS_OFFSET);
     let m = ROW_BYTES as u64 * rows;
     if leaves(file, a, m) {
         return true;
     }
-    let b = word(file, POINTS_OFFSET);
+    let b = header_word(file, POINTS_OFFSET);
     let n = POINT_BYTES as u64 * points;
     if leaves(file, b, n) {
         return true;
@@ -249,10 +256,10 @@ pub fn row_outside(row: &[u8]) -> bool
     if kilowatts_outside(row) {
         return true;
     }
-    if beyond(row, METERED, MOST_KILOWATTS) {
+    if beyond(word(row, METERED), MOST_KILOWATTS) {
         return true;
     }
-    if beyond(row, ADJUSTMENT, MOST_KILOWATTS) {
+    if beyond(word(row, ADJUSTMENT), MOST_KILOWATTS) {
         return true;
     }
     if word(row, MAXIMUM) < word(row, MINIMUM) {
@@ -261,7 +268,7 @@ pub fn row_outside(row: &[u8]) -> bool
     if 1 < word(row, ONLINE) {
         return true;
     }
-    if beyond(row, LMP, MOST_PRICE) {
+    if beyond(word(row, LMP), MOST_PRICE) {
         return true;
     }
     if kind != ENERGY_ONLY {
@@ -293,7 +300,7 @@ fn point_outside(point: &[u8]) -> bool
     requires { ⌜ 8 ≤ length (now point) ⌝ }
     ensures { λ r. ⌜ r ≡ pointOutside (pointOf (now (point .entry))) ⌝ }
 {
-    if beyond(point, PRICE, MOST_PRICE) {
+    if beyond(word(point, PRICE), MOST_PRICE) {
         return true;
     }
     MOST_KILOWATTS < word(point, KW)

@@ -5,10 +5,10 @@ use mathlib.Core.List.{List, [], _∷_, _++_, append-assoc, append-nil}
 use native.Mathlib.Nat.{add-suc, suc-add, add-zero, zero-add, pow-succ', mul-assoc}
 use native.Mathlib.Numerals.{add-one}
 use native.Mathlib.Omega.{arith}
-use lib.ListN.{length, take, drop, getD, set, length-append, length-drop, take-append-drop, drop-of-length-le}
-use lib.Seq.{drop-drop, sets, sets-eq, length-take-le, take-at, drop-at, drop-cons, set-at}
+use lib.ListN.{length, take, drop, getD, length-append, length-drop, take-append-drop, drop-of-length-le}
+use lib.Seq.{drop-drop, sets, sets-eq, length-take-le, take-at, drop-at, drop-cons}
 use Rattle.words.specs.Words.{number, bytesOf, numberAt, entries, bytesOfWords, written, writtenAt}
-use Rattle.words.proofs.Words.{length-bytesOf, length-entries, length-bytesOfWords, length-written}
+use Rattle.words.proofs.Words.{length-bytesOf, length-bytesOfWords, length-written}
 
 -- no bytes hold 0
 number-nil : (n : ℕ) → number n [] ≡ 0
@@ -40,6 +40,19 @@ two-bytes b at =
     let high = first-byte 0 b (suc at) in
     let none : numberAt 0 b (suc (suc at)) ≡ 0 = unfold numberAt number in refl in
     rw add-one (omega (arith, low, high, none))
+
+-- a number of four bytes
+pub four-bytes : (b : List ℕ) (at : ℕ) → numberAt 4 b at ≡ getD b at 0 + 256 * getD b (at + 1) 0 + 65536 * getD b (at + 2) 0 + 16777216 * getD b (at + 3) 0
+four-bytes b at =
+    let low = two-bytes b at in
+    let high = two-bytes b (at + 2) in
+    let next : at + 2 + 1 ≡ at + 3 = omega arith in
+    omega (arith, split-number 2 2 b at, low, rw next at high)
+
+-- past the end there is no byte but 0
+pub past-end : (n : ℕ) (b : List ℕ) (at : ℕ) → length b ≤ at → numberAt n b at ≡ 0
+unfolding numberAt
+past-end n b at h = ap (number n) (drop-of-length-le b h) ∙ number-nil n
 
 -- a number in a part of a buffer stands further on in the whole
 pub numberAt-drop : (n p : ℕ) (b : List ℕ) (at : ℕ) → numberAt n (drop p b) at ≡ numberAt n b (p + at)
@@ -102,34 +115,6 @@ unfolding writtenAt
 length-writtenAt at ws b h =
     let n = length-drop at b in
     omega (arith, length-append (take at b) (written ws (drop at b)), length-take-le at b (omega arith), length-written ws (drop at b) (omega arith), n)
-
--- a table of one entry more
-pub entries-snoc : {A : Type 0} (size : ℕ) (read : List ℕ → A) (n : ℕ) (b : List ℕ)
-    → entries size read (suc n) b ≡ entries size read n b ++ (read (drop (size * n) b) ∷ [])
-unfolding entries
-entries-snoc size read zero b = let front : size * 0 ≡ 0 = omega arith in rw front
-entries-snoc size read (suc n) b =
-    let next : size + size * n ≡ size * suc n = omega arith in
-    ap (λ rest. read b ∷ rest) (entries-snoc size read n (drop size b) ∙ ap (λ d. entries size read n (drop size b) ++ (read d ∷ [])) (drop-drop (size * n) size b ∙ ap (λ k. drop k b) next))
-
--- one turn of filling a list from a table, entry by entry
-pub fill-turn : (size : ℕ) (read : List ℕ → ℕ) (b s s₀ : List ℕ) (i v : ℕ) → s ≡ entries size read i b ++ drop i s₀ → i < length s₀ → v ≡ read (drop (size * i) b)
-    → set s i v ≡ entries size read (i + 1) b ++ drop (i + 1) s₀
-fill-turn size read b s s₀ i v e h q =
-    let here = drop-cons s₀ i 0 h in
-    ap (λ l. set l i v) (e ∙ ap (λ l. entries size read i b ++ l) here)
-    ∙ set-at (entries size read i b) (getD s₀ i 0) (drop (suc i) s₀) v i (length-entries size read i b)
-    ∙ sym (append-assoc (entries size read i b) (v ∷ []) (drop (suc i) s₀))
-    ∙ ap (λ w. (entries size read i b ++ (w ∷ [])) ++ drop (suc i) s₀) q
-    ∙ ap (λ l. l ++ drop (suc i) s₀) (sym (entries-snoc size read i b))
-    ∙ rw add-one
-
--- a list filled to its end is the table
-pub fill-all : (size : ℕ) (read : List ℕ → ℕ) (b s s₀ : List ℕ) (i : ℕ) → s ≡ entries size read i b ++ drop i s₀ → i ≤ length s₀ → length s₀ ≤ i
-    → s ≡ entries size read (length s₀) b
-fill-all size read b s s₀ i e low high =
-    let end : i ≡ length s₀ = omega arith in
-    e ∙ ap (λ l. entries size read i b ++ l) (drop-of-length-le s₀ high) ∙ append-nil (entries size read i b) ∙ ap (λ k. entries size read k b) end
 
 -- one turn of writing a list, word by word
 pub store-turn : (s b b′ goal : List ℕ) (i : ℕ) → writtenAt (8 * i) (drop i s) b ≡ goal → b′ ≡ writtenAt (8 * i) (getD s i 0 ∷ []) b → i < length s → 8 * i + 8 ≤ length b

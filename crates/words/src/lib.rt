@@ -3,9 +3,9 @@
 ghost use mathlib.Core.Path.{_≡_};
 ghost use mathlib.Core.List.{_∷_, []};
 ghost use Prim.Native.Nat.{_+_, _*_, _≤_, _<_, _^_};
-ghost use lib.ListN.{length};
+ghost use lib.ListN.{length, getD};
 ghost use lib.Signed.{mag};
-ghost use Rattle.words.specs.Words.{number, numberAt, signed as signedOf, entries, written, writtenAt};
+ghost use Rattle.words.specs.Words.{numberAt, signed as signedOf, written, writtenAt};
 
 fn wide(x: u8) -> u64
     ensures { λ r. ⌜ r ≡ x ⌝ }
@@ -29,6 +29,31 @@ pub fn word32(b: &[u8], at: usize) -> u64
     ensures { λ r. ⌜ r < 4294967296 ⌝ }
 {
     word16(b, at) + 65536 * word16(b, at + 2)
+}
+
+// The byte at an offset; one past the end counts as 0.
+fn byte_or_zero(b: &[u8], at: usize) -> u64
+    ensures { λ r. ⌜ r ≡ getD (now (b .entry)) at 0 ⌝ }
+    ensures { λ r. ⌜ r < 256 ⌝ }
+{
+    if b.len() <= at {
+        return 0;
+    }
+    wide(b[at])
+}
+
+// The 32-bit word at a byte offset; bytes past the end count as 0.
+pub fn word32_or_zero(b: &[u8], at: usize) -> u64
+    ensures { λ r. ⌜ r ≡ numberAt 4 (now (b .entry)) at ⌝ }
+    ensures { λ r. ⌜ r < 4294967296 ⌝ }
+{
+    if b.len() <= at {
+        return 0;
+    }
+    byte_or_zero(b, at)
+        + 256 * byte_or_zero(b, at + 1)
+        + 65536 * byte_or_zero(b, at + 2)
+        + 16777216 * byte_or_zero(b, at + 3)
 }
 
 // The 64-bit word at a byte offset.
@@ -72,18 +97,6 @@ pub fn put64(b: &mut [u8], at: usize, v: u64)
     b[at + 5] = (v5 % 256) as u8;
     b[at + 6] = (v6 % 256) as u8;
     b[at + 7] = (v7 % 256) as u8;
-}
-
-// Reads all of `s` from the front of `b`, a word for each element.
-pub fn load_words(b: &[u8], s: &mut [u64])
-    requires { ⌜ 8 * length (now s) ≤ length (now b) ⌝ }
-    ensures { λ _. ⌜ now (s .exit) ≡ entries 8 (number 8) (length (now (s .entry))) (now (b .entry)) ⌝ }
-{
-    let mut i = 0;
-    while i < s.len() {
-        s[i] = word64(b, 8 * i);
-        i += 1;
-    }
 }
 
 // Writes all of `s` to the front of `b`.

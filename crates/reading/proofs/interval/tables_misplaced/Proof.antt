@@ -5,8 +5,8 @@ use Rattle.reading.proofs.FileTests.{rows-none, rows-many, points-many,
 use Rattle.reading.proofs.interval.tables_misplaced.Statement.{statement}
 use Rattle.reading.proofs.interval.tables_misplaced.Tie as tie
 
-word-requires : tie.Need-word-requires
-word-requires c κs = omega arith
+header-word-requires : tie.Need-header-word-requires
+header-word-requires c κs = omega arith
 
 returns : tie.Need-returns
 returns c = sym (rows-none _ (omega arith))
@@ -14,14 +14,14 @@ returns c = sym (rows-none _ (omega arith))
 returns-2 : tie.Need-returns-2
 returns-2 c = sym (rows-many _ (omega arith))
 
-word-requires-2 : tie.Need-word-requires-2
-word-requires-2 c κs = omega arith
+header-word-requires-2 : tie.Need-header-word-requires-2
+header-word-requires-2 c κs = omega arith
 
 returns-3 : tie.Need-returns-3
 returns-3 c = sym (points-many _ (omega arith))
 
-word-requires-3 : tie.Need-word-requires-3
-word-requires-3 c κs = omega arith
+header-word-requires-3 : tie.Need-header-word-requires-3
+header-word-requires-3 c κs = omega arith
 
 mul-m : tie.Need-mul-m
 mul-m c = omega arith
@@ -31,11 +31,11 @@ leaves-requires c κs = omega arith
 
 returns-4 : tie.Need-returns-4
 returns-4 c =
-    let rows = c .before .before .before .before .before .before .before .word .ensures .0 in
-    sym (rows-leave _ _ _ (c .before .before .word3 .ensures .0) rows (sym (c .before .leaves .ensures) ∙ c .if4 .taken))
+    let rows = c .before .before .before .before .before .before .before .header-word .ensures .0 in
+    sym (rows-leave _ _ _ (c .before .before .header-word3 .ensures .0) rows (sym (c .before .leaves .ensures) ∙ c .if4 .taken))
 
-word-requires-4 : tie.Need-word-requires-4
-word-requires-4 c κs = omega arith
+header-word-requires-4 : tie.Need-header-word-requires-4
+header-word-requires-4 c κs = omega arith
 
 mul-n : tie.Need-mul-n
 mul-n c = omega arith
@@ -45,8 +45,8 @@ leaves-requires-2 c κs = omega arith
 
 returns-5 : tie.Need-returns-5
 returns-5 c =
-    let points = c .before .before .before .before .before .before .before .word2 .ensures .0 in
-    sym (points-leave _ _ _ (c .before .before .word4 .ensures .0) points (sym (c .before .leaves2 .ensures) ∙ c .if5 .taken))
+    let points = c .before .before .before .before .before .before .before .header-word2 .ensures .0 in
+    sym (points-leave _ _ _ (c .before .before .header-word4 .ensures .0) points (sym (c .before .leaves2 .ensures) ∙ c .if5 .taken))
 
 share-requires : tie.Need-share-requires
 share-requires c κs = omega arith
@@ -55,28 +55,28 @@ returns-6 : tie.Need-returns-6
 returns-6 c =
     let e5 = c .before in
     let e4 = e5 .before .before .before in
-    let rows = e4 .before .before .before .before .before .before .before .word .ensures .0 in
-    let points = e4 .before .before .before .before .word2 .ensures .0 in
+    let rows = e4 .before .before .before .before .before .before .before .header-word .ensures .0 in
+    let points = e4 .before .before .before .before .header-word2 .ensures .0 in
     let rows-lie = sym (e4 .before .leaves .ensures) ∙ e4 .if4 .left in
     let points-lie = sym (e5 .before .leaves2 .ensures) ∙ e5 .if5 .left in
     c .share .ensures
     ∙ sym
-    (tables-left _ _ _ _ _ (e4 .before .before .word3 .ensures .0) rows (e5 .before .before .word4 .ensures .0) points (omega arith) (omega arith) (omega arith) rows-lie points-lie)
+    (tables-left _ _ _ _ _ (e4 .before .before .header-word3 .ensures .0) rows (e5 .before .before .header-word4 .ensures .0) points (omega arith) (omega arith) (omega arith) rows-lie points-lie)
 
 pub tables-misplaced-spec : {M : Type 1} → statement M
 tables-misplaced-spec =
     tie.close
     (tie.spec
-    word-requires
+    header-word-requires
     returns
     returns-2
-    word-requires-2
+    header-word-requires-2
     returns-3
-    word-requires-3
+    header-word-requires-3
     mul-m
     leaves-requires
     returns-4
-    word-requires-4
+    header-word-requires-4
     mul-n
     leaves-requires-2
     returns-5

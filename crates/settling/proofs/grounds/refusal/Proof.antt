@@ -86,7 +86,7 @@ returns-3 c =
     sym (settling-8 _ _ _ (passed-6 (second .before .before)) (passed-7 second) (sym (c .before .other-terms .ensures) ∙ c .if3 .taken))
 
 header-outside-requires : tie.Need-header-outside-requires
-header-outside-requires c κs = file-room (c .before .before)
+header-outside-requires c κs = search needs
 
 returns-4 : tie.Need-returns-4
 returns-4 c =
@@ -109,7 +109,7 @@ returns-5 c =
     sym (settling-10 _ _ _ (passed-6 (second .before .before)) (passed-7 second) (passed-8 third) (passed-9 fourth) (omega (arith, c .if5 .taken, c .before .before .word .ensures .0, c .before .word2 .ensures)))
 
 tables-misplaced-requires : tie.Need-tables-misplaced-requires
-tables-misplaced-requires c κs = file-room (c .before .before .before .before .before .before .before)
+tables-misplaced-requires c κs = search needs
 
 returns-6 : tie.Need-returns-6
 returns-6 c =

@@ -13,7 +13,7 @@ returns : tie.Need-returns
 returns c = search needs
 
 tables-misplaced-requires : tie.Need-tables-misplaced-requires
-tables-misplaced-requires c κs = file-has-header _ (sym (c .before .not-a-file .ensures) ∙ c .if1 .left)
+tables-misplaced-requires c κs = search needs
 
 returns-2 : tie.Need-returns-2
 returns-2 c = search needs
