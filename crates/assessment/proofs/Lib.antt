@@ -8,3 +8,4 @@ pub mod CurveNumbers
 pub mod CurveLaws
 pub mod SumLaws
 pub mod RowLaws
+pub mod Impostors

@@ -10,3 +10,4 @@ pub mod ScratchLaws
 pub mod ChargingLaws
 pub mod PostingLaws
 pub mod SettledLaws
+pub mod Impostors
