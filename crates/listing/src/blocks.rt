@@ -68,3 +68,46 @@ fn put_row_lines(out: &mut [u8], at: usize, file: &[u8], result: &[u8]) -> usize
     }
     to
 }
+
+// Settles an interval file with a result of zeros, and writes its lines, or its refusal; answers where they end.
+pub fn list_interval(
+    number: u64,
+    ledger: &mut [u8],
+    file: &[u8],
+    result: &mut [u8],
+    out: &mut [u8],
+) -> usize
+    requires { ⌜ length (now result) ≡ 64 + 64 * 512 ⌝ }
+    requires { ⌜ 512 * 210 + 110 ≤ length (now out) ⌝ }
+    ensures { λ _. ⌜ now (ledger .exit) ≡ intervalListed number (now (ledger .entry)) (now (file .entry)) .ledger ⌝ }
+    ensures { λ _. ⌜ now (out .exit) ≡ placedAt 0 (intervalListed number (now (ledger .entry)) (now (file .entry)) .printed) (now (out .entry)) ⌝ }
+    ensures { λ r. ⌜ r ≡ length (intervalListed number (now (ledger .entry)) (now (file .entry)) .printed) ⌝ }
+    ensures { λ r. ⌜ r ≤ 512 * 210 + 110 ⌝ }
+{
+    clear(result);
+    let ground = settle_file(ledger, file, result);
+    if ground != 0 {
+        return put_refused(out, 0, number, ground as u64);
+    }
+    let end = put_row_lines(out, 0, file, result);
+    put_pool_line(out, end, word(file, INTERVAL), result)
+}
+
+// Opens a ledger in a buffer of zeros, and writes its refusal, if any.
+pub fn list_opening(block: &[u8], ledger: &mut [u8], out: &mut [u8]) -> Listed
+    requires { ⌜ length (now ledger) ≡ 64 + 32 * 512 ⌝ }
+    requires { ⌜ 50 ≤ length (now out) ⌝ }
+    ensures { λ _. ⌜ now (ledger .exit) ≡ openingListed (now (block .entry)) .ledger ⌝ }
+    ensures { λ _. ⌜ now (out .exit) ≡ placedAt 0 (openingListed (now (block .entry)) .printed) (now (out .entry)) ⌝ }
+    ensures { λ r. ⌜ r .end ≡ length (openingListed (now (block .entry)) .printed) ⌝ }
+    ensures { λ r. ⌜ r .on ≡ openingListed (now (block .entry)) .on ⌝ }
+    ensures { λ r. ⌜ r .end ≤ 50 ⌝ }
+{
+    clear(ledger);
+    let ground = open(block, ledger);
+    if ground != 0 {
+        let end = put_refused(out, 0, 0, ground as u64);
+        return Listed { end, on: false };
+    }
+    Listed { end: 0, on: true }
+}
