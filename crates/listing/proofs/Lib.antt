@@ -3,3 +3,4 @@ pub mod Figures
 pub mod Placing
 pub mod Digits
 pub mod LineLaws
+pub mod BlockLaws

@@ -1,7 +1,7 @@
 -- What npalist prints for a stream.
 use Prim.Native.Nat.{ℕ, zero, suc, _+_, _*_}
 use mathlib.Core.List.{List, [], _∷_, _++_}
-use mathlib.Core.Bool.{cond}
+use mathlib.Core.Bool.{Bool, true, false, cond}
 use lib.ListN.{length, take, drop, replicate}
 use lib.Dec.{ltb, eqb}
 use Rattle.words.specs.Words.{word32, word64}
@@ -55,31 +55,54 @@ ledgerBuffer = replicate (ledgerBytes mostIds) 0
 unfoldable pub resultBuffer : List ℕ
 resultBuffer = replicate (resultHeaderBytes + resultRowBytes * mostRows) 0
 
--- the interval blocks of a stream, from one number on, with a budget of blocks: it goes on after a refused one, and stops at an over-long length, a 7
-unfoldable pub intervals : ℕ → ℕ → List ℕ → List ℕ → List ℕ
-intervals zero number ledger s = []
-intervals (suc budget) number ledger s =
-    elim (nextBlock mostFileBytes s) [
-      | ended ↦ []
-      | cut ↦ cutLine number
-      | overLong ↦ refusedLine number 7
-      | block file rest ↦ (let a = settling ledger file resultBuffer in intervalLines number file a ++ intervals budget (number + 1) (a .ledger) rest)
-    ]
+-- what a block comes to: the bytes to print, the ledger after it, and whether the listing goes on
+pub record Listed : Type 0 where
+  pub printed : List ℕ
+  pub ledger : List ℕ
+  pub on : Bool
 
--- the stream after an opening: the interval blocks, or an end after a refusal
-unfoldable pub afterOpening : OpeningAnswer → List ℕ → List ℕ
-afterOpening a rest = cond (eqb (a .ground) 0) (intervals (length rest) 1 (a .ledger) rest) (refusedLine 0 (a .ground))
+-- the opening block: nothing is printed, or its refusal, after which the listing stops
+unfoldable pub openingListed : List ℕ → Listed
+openingListed opened =
+    let a = opening opened ledgerBuffer in
+    record { printed = cond (eqb (a .ground) 0) [] (refusedLine 0 (a .ground)); ledger = a .ledger; on = eqb (a .ground) 0 }
 
--- the opening block, block 0: the stream may not end before it, and an over-long length is a 1
-unfoldable pub blocks : List ℕ → List ℕ
-blocks s =
-    elim (nextBlock mostBlockBytes s) [
-      | ended ↦ cutLine 0
-      | cut ↦ cutLine 0
-      | overLong ↦ refusedLine 0 1
-      | block opened rest ↦ afterOpening (opening opened ledgerBuffer) rest
-    ]
+-- an interval block: the listing goes on after a refused one too
+unfoldable pub intervalListed : ℕ → List ℕ → List ℕ → Listed
+intervalListed number ledger file =
+    let a = settling ledger file resultBuffer in
+    record { printed = intervalLines number file a; ledger = a .ledger; on = true }
 
--- npalist: the heading in any case, then what the blocks of standard input come to
+-- an end of the listing, after these bytes
+unfoldable pub stopped : List ℕ → List ℕ → Listed
+stopped ledger bytes = record { printed = bytes; ledger = ledger; on = false }
+
+-- the most bytes of a block: the opening is block 0
+unfoldable pub mostBytes : ℕ → ℕ
+mostBytes number = cond (eqb number 0) mostBlockBytes mostFileBytes
+
+-- what comes next in a stream: it may not end before the opening, and an over-long length is a 1 or a 7
+unfoldable pub listed : ℕ → List ℕ → Next → Listed
+listed number ledger ended = stopped ledger (cond (eqb number 0) (cutLine 0) [])
+listed number ledger cut = stopped ledger (cutLine number)
+listed number ledger overLong = stopped ledger (refusedLine number (cond (eqb number 0) 1 7))
+listed number ledger (block bytes rest) = cond (eqb number 0) (openingListed bytes) (intervalListed number ledger bytes)
+
+-- the stream after what comes next
+unfoldable pub after : Next → List ℕ
+after ended = []
+after cut = []
+after overLong = []
+after (block bytes rest) = rest
+
+-- the blocks of a stream, from one number on, with a budget of blocks
+unfoldable pub lines : ℕ → ℕ → List ℕ → List ℕ → List ℕ
+lines zero number ledger s = []
+lines (suc budget) number ledger s =
+    let next = nextBlock (mostBytes number) s in
+    let l = listed number ledger next in
+    l .printed ++ cond (l .on) (lines budget (number + 1) (l .ledger) (after next)) []
+
+-- npalist: the heading in any case, then what the blocks of standard input come to; each takes four bytes or more, so no stream uses the budget up
 unfoldable pub npalist : List ℕ → List ℕ
-npalist stream = heading ++ blocks stream
+npalist stream = heading ++ lines (length stream + 1) 0 ledgerBuffer stream

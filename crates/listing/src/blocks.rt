@@ -1,0 +1,113 @@
+// What npalist does with what comes next in a stream: settles a block, and writes the lines that it prints.
+
+use crate::lines::put_pool_line;
+use crate::lines::put_refused;
+use crate::lines::put_row_line;
+use ledger::opening::open;
+use reading::interval::ID;
+use reading::interval::INTERVAL;
+use reading::interval::ROWS;
+use reading::interval::ROWS_OFFSET;
+use reading::interval::word;
+use settling::call::settle_file;
+ghost use mathlib.Core.Path.{_≡_};
+ghost use Prim.Native.Nat.{_+_, _*_, _≤_};
+ghost use lib.ListN.{length, drop, replicate};
+ghost use Rattle.reading.specs.Interval.{headerOf, rowsOf};
+ghost use Rattle.listing.specs.Lines.{placedAt};
+ghost use Rattle.listing.specs.Npalist.{rowLines, openingListed, intervalListed};
+
+const ROW_BYTES: usize = 56;
+
+const RESULT_HEADER_BYTES: usize = 64;
+
+const RESULT_ROW_BYTES: usize = 64;
+
+// What a block comes to: the end of the bytes to print, and whether the listing goes on.
+pub struct Listed {
+    pub end: usize,
+    pub on: bool,
+}
+
+// Fills a buffer with zeros.
+pub fn clear(buffer: &mut [u8])
+    ensures { λ _. ⌜ now (buffer .exit) ≡ replicate (length (now (buffer .entry))) 0 ⌝ }
+{
+    let mut i = 0;
+    while i < buffer.len() {
+        buffer[i] = 0;
+        i += 1;
+    }
+}
+
+// Writes the lines of the rows of a settled file.
+fn put_row_lines(out: &mut [u8], at: usize, file: &[u8], result: &[u8]) -> usize
+    requires { ⌜ 40 ≤ length (now file) ⌝ }
+    requires { ⌜ headerOf (now file) .rowsOffset + 56 * headerOf (now file) .rowCount ≤ length (now file) ⌝ }
+    requires { ⌜ 64 + 64 * headerOf (now file) .rowCount ≤ length (now result) ⌝ }
+    requires { ⌜ at + 210 * headerOf (now file) .rowCount ≤ length (now out) ⌝ }
+    ensures { λ _. ⌜ now (out .exit) ≡ placedAt at (rowLines (headerOf (now (file .entry)) .interval) (rowsOf (now (file .entry))) (drop 64 (now (result .entry)))) (now (out .entry)) ⌝ }
+    ensures { λ r. ⌜ r ≡ at + length (rowLines (headerOf (now (file .entry)) .interval) (rowsOf (now (file .entry))) (drop 64 (now (result .entry)))) ⌝ }
+    ensures { λ r. ⌜ r ≤ at + 210 * headerOf (now (file .entry)) .rowCount ⌝ }
+{
+    let interval = word(file, INTERVAL);
+    let rows = word(file, ROWS) as usize;
+    let first = word(file, ROWS_OFFSET) as usize;
+    let mut to = at;
+    let mut i = 0;
+    while i < rows {
+        let id = word(&file[first + ROW_BYTES * i..], ID);
+        to = put_row_line(
+            out,
+            to,
+            interval,
+            id,
+            &result[RESULT_HEADER_BYTES + RESULT_ROW_BYTES * i..],
+        );
+        i += 1;
+    }
+    to
+}
+
+// Settles an interval file with a result of zeros, and writes its lines, or its refusal; answers where they end.
+pub fn list_interval(
+    number: u64,
+    ledger: &mut [u8],
+    file: &[u8],
+    result: &mut [u8],
+    out: &mut [u8],
+) -> usize
+    requires { ⌜ length (now result) ≡ 64 + 64 * 512 ⌝ }
+    requires { ⌜ 512 * 210 + 110 ≤ length (now out) ⌝ }
+    ensures { λ _. ⌜ now (ledger .exit) ≡ intervalListed number (now (ledger .entry)) (now (file .entry)) .ledger ⌝ }
+    ensures { λ _. ⌜ now (out .exit) ≡ placedAt 0 (intervalListed number (now (ledger .entry)) (now (file .entry)) .printed) (now (out .entry)) ⌝ }
+    ensures { λ r. ⌜ r ≡ length (intervalListed number (now (ledger .entry)) (now (file .entry)) .printed) ⌝ }
+    ensures { λ r. ⌜ r ≤ 512 * 210 + 110 ⌝ }
+{
+    clear(result);
+    let ground = settle_file(ledger, file, result);
+    if ground != 0 {
+        return put_refused(out, 0, number, ground as u64);
+    }
+    let end = put_row_lines(out, 0, file, result);
+    put_pool_line(out, end, word(file, INTERVAL), result)
+}
+
+// Opens a ledger in a buffer of zeros, and writes its refusal, if any.
+pub fn list_opening(block: &[u8], ledger: &mut [u8], out: &mut [u8]) -> Listed
+    requires { ⌜ length (now ledger) ≡ 64 + 32 * 512 ⌝ }
+    requires { ⌜ 50 ≤ length (now out) ⌝ }
+    ensures { λ _. ⌜ now (ledger .exit) ≡ openingListed (now (block .entry)) .ledger ⌝ }
+    ensures { λ _. ⌜ now (out .exit) ≡ placedAt 0 (openingListed (now (block .entry)) .printed) (now (out .entry)) ⌝ }
+    ensures { λ r. ⌜ r .end ≡ length (openingListed (now (block .entry)) .printed) ⌝ }
+    ensures { λ r. ⌜ r .on ≡ openingListed (now (block .entry)) .on ⌝ }
+    ensures { λ r. ⌜ r .end ≤ 50 ⌝ }
+{
+    clear(ledger);
+    let ground = open(block, ledger);
+    if ground != 0 {
+        let end = put_refused(out, 0, 0, ground as u64);
+        return Listed { end, on: false };
+    }
+    Listed { end: 0, on: true }
+}
