@@ -114,7 +114,7 @@ impl Maker {
         let days = line.need("days")?;
         let days = line.unsigned("days", days)?;
         let ids = line.need("ids")?;
-        let mut opening = Opening::new(net_cone, days, &id_list(line, ids)?);
+        let mut opening = Opening::new(net_cone, days, &id_list(line, "ids", ids)?);
         opening.words[0] = line.take_unsigned("format")?.unwrap_or(1);
         if let Some(at) = line.take_unsigned("ids_at")? {
             opening.place(at as usize, 0);
@@ -293,12 +293,13 @@ fn interval_of<'a>(line: &Line, block: Option<&'a mut Block>) -> Result<&'a mut 
     }
 }
 
-/// `row ID kind=KIND committed=N .. curve=LIST`, or `first` and `points` instead of `curve`.
+/// `row ID kind=KIND committed=N .. curve=LIST`, or `first` and `points` instead of `curve`;
+/// for several ids, as many rows that are alike and share their points.
 fn row(line: &mut Line, block: Option<&mut Block>) -> Result<(), Fault> {
     let interval = interval_of(line, block)?;
     let mut words = [0; 14];
-    let id = line.word("id")?;
-    words[0] = line.unsigned("id", id)?;
+    let ids = line.word("id")?;
+    let ids = id_list(line, "id", ids)?;
     if let Some(kind) = line.take("kind") {
         let named = KINDS.iter().position(|name| *name == kind);
         words[1] = named.map_or_else(|| line.unsigned("kind", kind), |kind| Ok(kind as u32))?;
@@ -319,7 +320,10 @@ fn row(line: &mut Line, block: Option<&mut Block>) -> Result<(), Fault> {
         words[12] = line.take_unsigned("first")?.unwrap_or(0);
         words[13] = line.take_unsigned("points")?.unwrap_or(0);
     }
-    interval.rows.push(words);
+    for id in ids {
+        words[0] = id;
+        interval.rows.push(words);
+    }
     Ok(())
 }
 
@@ -345,15 +349,15 @@ fn bytes(line: &mut Line, block: Option<&mut Block>) -> Result<(), Fault> {
 }
 
 /// Ids with commas between them; `11-14` is four of them.
-fn id_list(line: &Line, text: &str) -> Result<Vec<u32>, Fault> {
+fn id_list(line: &Line, field: &str, text: &str) -> Result<Vec<u32>, Fault> {
     let mut ids = Vec::new();
     for part in text.split(',').filter(|_| !text.is_empty()) {
         let (first, last) = part.split_once('-').unwrap_or((part, part));
-        let first = line.unsigned("ids", first)?;
-        let last = line.unsigned("ids", last)?;
+        let first = line.unsigned(field, first)?;
+        let last = line.unsigned(field, last)?;
         let more = last.checked_sub(first);
         if !more.is_some_and(|more| more < 100_000) {
-            return Err(line.fault("ids", format!("`{part}` is no range of ids")));
+            return Err(line.fault(field, format!("`{part}` is no range of ids")));
         }
         ids.extend(first..=last);
     }

@@ -24,8 +24,8 @@ fn faults_name_line_and_field() {
             format!("line 4, field lmp: `2147483648` {signed}"),
         ),
         (
-            "row -1",
-            "line 4, field id: `-1` is not a number from 0 to 4294967295".to_string(),
+            "row x",
+            "line 4, field id: `x` is not a number from 0 to 4294967295".to_string(),
         ),
         ("row", "line 4, field id: is missing".to_string()),
         (

@@ -131,6 +131,19 @@ fn fields_are_the_words_of_the_layouts() {
     assert_eq!(make(text).unwrap(), stream);
 }
 
+/// A line for several rows makes the same bytes as a line for each, with points shared.
+#[test]
+fn rows_that_are_alike() {
+    let opening = "opening net_cone=1 days=365 ids=1-9\ninterval 0\n";
+    let alike = "row 1-3,7 kind=demand metered=-4 curve=5:6";
+    let each = "row 1 kind=1 metered=-4 curve=5:6
+        row 2 kind=1 metered=-4 first=0 points=1
+        row 3 kind=1 metered=-4 first=0 points=1
+        row 7 kind=1 metered=-4 first=0 points=1";
+    let [alike, each] = [alike, each].map(|rows| make(&format!("{opening}{rows}")));
+    assert_eq!(alike, each);
+}
+
 #[test]
 fn bytes_of_the_stream_itself() {
     let text = "block length=6\nbytes 1 0a0b\nblock\nlength 258\nraw 01 02ff\ncut 1";
