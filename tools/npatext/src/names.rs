@@ -1,0 +1,33 @@
+//! The names of fields and kinds, which making and showing share.
+
+/// Whether a word holds a signed number.
+#[derive(Clone, Copy, PartialEq)]
+pub enum Sign {
+    Signed,
+    Unsigned,
+}
+
+use Sign::{Signed, Unsigned};
+
+/// Words 2 to 11 of a row.
+pub const ROW_WORDS: [(usize, &str, Sign); 10] = [
+    (2, "committed", Unsigned),
+    (3, "owned", Unsigned),
+    (4, "metered", Signed),
+    (5, "adjustment", Signed),
+    (6, "planned", Unsigned),
+    (7, "forced", Unsigned),
+    (8, "maximum", Unsigned),
+    (9, "minimum", Unsigned),
+    (10, "online", Unsigned),
+    (11, "lmp", Signed),
+];
+
+/// Kinds 0 to 4.
+pub const KINDS: [&str; 5] = ["generation", "demand", "efficiency", "prd", "energy_only"];
+
+/// The bytes of an opening block before any ids, and of a header.
+pub const OPENING_BYTES: usize = 20;
+pub const HEADER_BYTES: usize = 40;
+pub const ROW_BYTES: usize = 56;
+pub const POINT_BYTES: usize = 8;

@@ -1,0 +1,156 @@
+//! Text to stream to text to stream gives the same bytes and the same text.
+
+use npa_tests::layout::{IntervalFile, Opening, Row};
+use npa_tests::listing;
+use npa_tests::random::{self, push_block, Rng, Size, FULL, MIDDLE, SMALL};
+use npatext::{make, show};
+
+/// Shows a stream and makes it again.
+fn hold(stream: &[u8], name: &str) {
+    let text = show(stream);
+    let again = make(&text).unwrap_or_else(|fault| panic!("{name}: {fault}\n{text}"));
+    assert!(again == stream, "{name}\n{text}");
+    assert_eq!(show(&again), text, "{name}");
+}
+
+/// The stream of document 01's listing.
+fn document() -> Vec<u8> {
+    let mut stream = Vec::new();
+    push_block(&mut stream, &listing::opening().bytes());
+    push_block(&mut stream, &listing::file(1000).bytes());
+    stream
+}
+
+#[test]
+fn document_01() {
+    hold(&document(), "document 01");
+}
+
+#[test]
+fn every_prefix() {
+    let stream = document();
+    for length in 0..=stream.len() {
+        hold(&stream[..length], &format!("{length} bytes"));
+    }
+}
+
+fn random_streams(size: &Size, calls: usize, count: u64) {
+    for seed in 0..count {
+        let stream = random::stream(&mut Rng::new(seed), size, calls);
+        hold(&stream, &format!("seed {seed}"));
+    }
+}
+
+#[test]
+fn small_streams() {
+    random_streams(&SMALL, 12, 2_000);
+}
+
+#[test]
+fn middle_streams() {
+    random_streams(&MIDDLE, 12, 300);
+}
+
+#[test]
+fn full_streams() {
+    random_streams(&FULL, 6, 40);
+}
+
+/// Blocks with any bytes in them: damaged openings and files of every ground.
+#[test]
+fn damaged_blocks() {
+    for seed in 0..2_000 {
+        let mut rng = Rng::new(seed);
+        let mut stream = Vec::new();
+        push_block(&mut stream, &random::open_call(&mut rng, &SMALL).block);
+        for _ in 0..4 {
+            push_block(&mut stream, &random::settle_call(&mut rng, &SMALL).file);
+        }
+        hold(&stream, &format!("seed {seed}"));
+    }
+}
+
+/// Any bytes behind lengths of their own, and any bytes at all.
+#[test]
+fn any_bytes() {
+    for seed in 0..2_000 {
+        let mut rng = Rng::new(seed);
+        let mut stream = Vec::new();
+        for _ in 0..3 {
+            let length = rng.index(130);
+            push_block(&mut stream, &rng.bytes(length));
+        }
+        let length = rng.index(20);
+        stream.extend(rng.bytes(length));
+        hold(&stream, &format!("seed {seed}"));
+    }
+}
+
+/// The words of the text's fields are those of the layouts.
+#[test]
+fn fields_are_the_words_of_the_layouts() {
+    let text = "
+        opening net_cone=1 days=2 ids=3,5-7 format=9
+        interval 10 format=11 net_cone=12 days=13 region_wide=14 imports=-15
+        row 20 kind=21 committed=22 owned=23 metered=-24 adjustment=-25 planned=26 \
+            forced=27 maximum=28 minimum=29 online=30 lmp=-31 curve=-32:33,34:35
+        row 36 kind=prd first=37 points=38";
+    let mut stream = Vec::new();
+    let mut opening = Opening::new(1, 2, &[3, 5, 6, 7]);
+    opening.words[0] = 9;
+    push_block(&mut stream, &opening.bytes());
+    let row = Row {
+        id: 20,
+        kind: 21,
+        committed: 22,
+        owned: 23,
+        metered: -24,
+        adjustment: -25,
+        planned: 26,
+        forced: 27,
+        maximum: 28,
+        minimum: 29,
+        online: 30,
+        lmp: -31,
+        first: 0,
+        count: 2,
+    };
+    let prd = Row {
+        id: 36,
+        kind: 3,
+        first: 37,
+        count: 38,
+        ..Row::default()
+    };
+    let points = vec![[-32i32 as u32, 33], [34, 35]];
+    let mut file = IntervalFile::new(12, 13, 10, vec![row.words(), prd.words()], points);
+    file.head[0] = 11;
+    file.head[4] = 14;
+    file.head[5] = -15i32 as u32;
+    push_block(&mut stream, &file.bytes());
+    assert_eq!(make(text).unwrap(), stream);
+}
+
+/// A line for several rows makes the same bytes as a line for each, with points shared.
+#[test]
+fn rows_that_are_alike() {
+    let opening = "opening net_cone=1 days=365 ids=1-9\ninterval 0\n";
+    let alike = "row 1-3,7 kind=demand metered=-4 curve=5:6";
+    let each = "row 1 kind=1 metered=-4 curve=5:6
+        row 2 kind=1 metered=-4 first=0 points=1
+        row 3 kind=1 metered=-4 first=0 points=1
+        row 7 kind=1 metered=-4 first=0 points=1";
+    let [alike, each] = [alike, each].map(|rows| make(&format!("{opening}{rows}")));
+    assert_eq!(alike, each);
+}
+
+#[test]
+fn bytes_of_the_stream_itself() {
+    let text = "block length=6\nbytes 1 0a0b\nblock\nlength 258\nraw 01 02ff\ncut 1";
+    let stream = [
+        &[6, 0, 0, 0, 0, 10, 11, 0, 0, 0][..],
+        &[0, 0, 0, 0],
+        &[2, 1, 0, 0, 1, 2],
+    ];
+    assert_eq!(make(text).unwrap(), stream.concat());
+}

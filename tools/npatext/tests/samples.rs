@@ -1,0 +1,167 @@
+//! The samples: every stream is made of its text, and every listing is the reference's.
+
+use npa_tests::listing;
+use npa_tests::random::push_block;
+use npa_tests::reference::npalist;
+use npatext::{make, show};
+use std::collections::{BTreeMap, BTreeSet};
+use std::fs;
+use std::path::Path;
+
+const FOLDER: &str = concat!(env!("CARGO_MANIFEST_DIR"), "/../../samples");
+
+/// A file of a sample.
+fn file(name: &str, kind: &str) -> Vec<u8> {
+    let path = Path::new(FOLDER).join(format!("{name}.{kind}"));
+    fs::read(&path).unwrap_or_else(|error| panic!("{}: {error}", path.display()))
+}
+
+/// A text file of a sample.
+fn text(name: &str, kind: &str) -> String {
+    String::from_utf8(file(name, kind)).expect("the file is text")
+}
+
+/// The samples and the kinds of files that each has.
+fn samples() -> BTreeMap<String, BTreeSet<String>> {
+    let mut samples: BTreeMap<String, BTreeSet<String>> = BTreeMap::new();
+    for entry in fs::read_dir(FOLDER).expect("the samples are there") {
+        let name = entry.expect("an entry").file_name();
+        let name = name.to_string_lossy().to_string();
+        match name.split_once('.') {
+            Some((name, kind)) if kind != "md" => {
+                let kinds = samples.entry(name.to_string()).or_default();
+                kinds.insert(kind.to_string());
+            }
+            _ => assert!(["README.md", "make"].contains(&&name[..]), "{name}"),
+        }
+    }
+    samples
+}
+
+#[test]
+fn samples_are_complete() {
+    let samples = samples();
+    let names: Vec<&str> = samples.keys().map(String::as_str).collect();
+    let wanted = ["afternoon", "cut", "document", "opening", "refusals"];
+    assert_eq!(names, wanted);
+    for (name, kinds) in &samples {
+        let kinds: Vec<&str> = kinds.iter().map(String::as_str).collect();
+        assert_eq!(kinds, ["csv", "stream", "txt"], "{name}");
+    }
+}
+
+#[test]
+fn streams_are_made_of_their_texts() {
+    for name in samples().keys() {
+        let made = make(&text(name, "txt")).unwrap_or_else(|fault| panic!("{name}: {fault}"));
+        assert!(made == file(name, "stream"), "{name}.stream is another");
+        let shown = show(&made);
+        assert!(make(&shown).as_ref() == Ok(&made), "{name}: {shown}");
+    }
+}
+
+#[test]
+fn listings_are_the_references() {
+    for name in samples().keys() {
+        let listing = npalist(&file(name, "stream"));
+        assert!(listing == file(name, "csv"), "{name}.csv is another");
+    }
+}
+
+/// Input and output stand in document 01.
+#[test]
+fn document_is_document_01() {
+    let mut stream = Vec::new();
+    push_block(&mut stream, &listing::opening().bytes());
+    push_block(&mut stream, &listing::file(1000).bytes());
+    assert_eq!(file("document", "stream"), stream);
+    let printed = "\
+interval,id,expected,actual,outage,economic,shortfall,bonus,charge,credit
+1000,11,86667,60000,10000,26667,0,0,0,0
+1000,12,43333,25000,0,0,18333,0,557628,0
+1000,13,0,35000,0,0,0,30000,0,418210
+1000,14,5000,15001,0,0,0,10001,0,139417
+pool,1000,866673,557628,557627,1
+";
+    assert_eq!(text("document", "csv"), printed);
+}
+
+/// The numbers of the lines that begin with a word, or with a number if there is none.
+fn lines(csv: &str, word: Option<&str>) -> Vec<Vec<u64>> {
+    let numbers = |line: &str| {
+        let line = match word {
+            Some(word) => line.strip_prefix(word)?,
+            None => line,
+        };
+        line.split(',').map(|number| number.parse().ok()).collect()
+    };
+    csv.lines().filter_map(numbers).collect()
+}
+
+#[test]
+fn refusals_show_every_ground() {
+    let csv = text("refusals", "csv");
+    let refused = lines(&csv, Some("refused,"));
+    let grounds: BTreeSet<u64> = refused.iter().map(|line| line[1]).collect();
+    let wanted: BTreeSet<u64> = (7..=16).filter(|ground| *ground != 15).collect();
+    assert_eq!(grounds, wanted);
+    assert_eq!(lines(&csv, Some("pool,")).len(), 5);
+    assert!(csv.ends_with(",7\n"));
+    assert!(text("opening", "csv").ends_with("\nrefused,0,4\n"));
+    assert!(text("cut", "csv").ends_with("\ncut,2\n"));
+}
+
+/// Total bonus in kW, charges in cents and cents for a MW of bonus, by interval: Table 9 of PJM's review.
+const TABLE_9: [[u64; 3]; 24] = [
+    [10_854_700, 36_909_733, 3400],
+    [10_707_500, 37_463_973, 3499],
+    [10_852_300, 37_367_849, 3443],
+    [10_764_500, 37_983_280, 3529],
+    [10_761_100, 37_933_345, 3525],
+    [10_954_100, 39_393_287, 3596],
+    [10_569_200, 37_730_176, 3570],
+    [10_560_500, 37_991_807, 3598],
+    [10_378_600, 38_097_569, 3671],
+    [10_344_100, 37_621_899, 3637],
+    [10_342_600, 41_074_836, 3971],
+    [10_368_000, 39_915_894, 3850],
+    [10_522_900, 25_526_773, 2426],
+    [10_420_900, 41_287_566, 3962],
+    [10_552_600, 40_666_432, 3854],
+    [10_524_300, 40_176_228, 3817],
+    [10_654_900, 42_031_708, 3945],
+    [10_540_300, 45_665_166, 4332],
+    [10_567_700, 44_141_251, 4177],
+    [10_707_700, 35_947_094, 3357],
+    [10_680_800, 34_479_129, 3228],
+    [3_523_800, 3_414_012, 969],
+    [3_360_900, 3_068_727, 913],
+    [3_423_700, 2_269_352, 663],
+];
+
+/// Each interval has the published bonus and, within 15 cents, the published pool; a MW of bonus earns the
+/// published rate, or a cent less since it is rounded down.
+#[test]
+fn afternoon_has_the_published_figures() {
+    let csv = text("afternoon", "csv");
+    let rows = lines(&csv, None);
+    let pools = lines(&csv, Some("pool,"));
+    assert_eq!(pools.len(), TABLE_9.len());
+    let mut carried = 0;
+    for (index, [total, charges, rate]) in TABLE_9.into_iter().enumerate() {
+        let interval = 35_592 + index as u64;
+        let own = || rows.iter().filter(|row| row[0] == interval);
+        let bonus: u64 = own().map(|row| row[7]).sum();
+        assert_eq!((pools[index][0], bonus), (interval, total));
+        let pool = carried + pools[index][2];
+        assert!(pool.abs_diff(charges) <= 15, "{interval}: {pool}");
+        let first = own().next().expect("plant 1 has a row");
+        assert_eq!((first[1], first[7]), (1, 1000));
+        assert!(
+            [rate, rate - 1].contains(&first[9]),
+            "{interval}: {first:?}"
+        );
+        assert_eq!(first[9], 1000 * charges / total, "{interval}");
+        carried = pools[index][4];
+    }
+}
