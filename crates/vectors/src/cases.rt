@@ -1,11 +1,6 @@
 // One case each: a row and the points behind it as bytes, or plain numbers, through the code, and what it gives printed.
 
-use crate::layout::Header;
-use crate::layout::Row;
-use crate::layout::put_words;
-use crate::print::figure;
 use crate::print::six;
-use crate::print::test;
 use assessment::curve::considered;
 use assessment::curve::scheduled;
 use assessment::row::Figures;
@@ -27,6 +22,11 @@ use reading::interval::row_outside;
 use reading::interval::scan;
 use reading::interval::tables_misplaced;
 use reading::interval::word;
+use shown::layout::Header;
+use shown::layout::Row;
+use shown::layout::put_words;
+use shown::print::figure;
+use shown::print::test;
 ghost use Prim.Native.Nat.{_≤_};
 ghost use lib.ListN.{length};
 

@@ -10,14 +10,14 @@ use crate::cases::show_portion;
 use crate::cases::show_scheduled;
 use crate::cases::show_share;
 use crate::cases::sides;
-use crate::layout::Header;
-use crate::layout::Row;
-use crate::layout::put_words;
-use crate::print::figure;
 use assessment::rules::share;
 use assessment::sums::Sides;
 use assessment::units::Cents;
 use assessment::units::Kilowatts;
+use shown::layout::Header;
+use shown::layout::Row;
+use shown::layout::put_words;
+use shown::print::figure;
 
 const CURVE_A: [u64; 4] = [1000, 20000, 5000, 100000];
 

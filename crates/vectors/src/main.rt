@@ -2,7 +2,6 @@
 
 mod cases;
 mod document;
-mod layout;
 mod outside;
 mod print;
 

@@ -10,11 +10,11 @@ use crate::cases::show_row_outside;
 use crate::cases::show_scheduled;
 use crate::cases::show_share;
 use crate::cases::sides;
-use crate::layout::Header;
-use crate::layout::Row;
-use crate::layout::put_words;
 use assessment::sums::Sides;
 use assessment::units::Kilowatts;
+use shown::layout::Header;
+use shown::layout::Row;
+use shown::layout::put_words;
 
 // A row that could run for 1000 MW and was scheduled below what it gave.
 const ECONOMIC: Row = [

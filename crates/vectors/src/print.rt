@@ -1,4 +1,4 @@
-// A label and its figures, one line each.
+// A label and the six figures of a row, in one line.
 
 use assessment::row::Figures;
 use libc::STDOUT_FILENO;
@@ -7,27 +7,6 @@ use listing::lines::put_last;
 use listing::lines::put_text;
 ghost use Prim.Native.Nat.{_≤_};
 ghost use lib.ListN.{length};
-
-// Prints a figure.
-pub fn figure(label: &[u8], v: u64)
-    requires { ⌜ length (now label) ≤ 64 ⌝ }
-{
-    let mut line = [0u8; 96];
-    let at = put_text(&mut line, 0, label);
-    let end = put_last(&mut line, at, v);
-    io::write_all(STDOUT_FILENO, &line[..end]);
-}
-
-// Prints a test: 1 if it holds, else 0.
-pub fn test(label: &[u8], holds: bool)
-    requires { ⌜ length (now label) ≤ 64 ⌝ }
-{
-    if holds {
-        figure(label, 1);
-        return;
-    }
-    figure(label, 0);
-}
 
 // Writes the six figures of a row behind its label; answers where the line ends.
 fn put_six(line: &mut [u8], at: usize, f: Figures) -> usize

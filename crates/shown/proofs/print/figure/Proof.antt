@@ -1,10 +1,10 @@
--- `vectors::print::figure` meets its contract. What was written lies within the line.
+-- `shown::print::figure` meets its contract. What was written lies within the line.
 use mathlib.Core.Path.{sym}
 use native.Mathlib.Omega.{arith}
 use borrow.Author.Needs.{needs}
 use lib.Seq.{length-take-le}
-use Rattle.vectors.proofs.print.figure.Statement.{statement}
-use Rattle.vectors.proofs.print.figure.Tie as tie
+use Rattle.shown.proofs.print.figure.Statement.{statement}
+use Rattle.shown.proofs.print.figure.Tie as tie
 
 slice-aggregate-put-text : tie.Need-slice-aggregate-put-text
 slice-aggregate-put-text c = search needs

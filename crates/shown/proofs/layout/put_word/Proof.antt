@@ -1,12 +1,12 @@
--- `vectors::layout::put_word` meets its contract. Four bytes stored one after the other are the word.
+-- `shown::layout::put_word` meets its contract. Four bytes stored one after the other are the word.
 use native.Mathlib.Numerals.{towards-suc}
 use native.Mathlib.Omega.{arith}
 use borrow.Author.Needs.{needs}
 use lib.ListN.{length-set}
 use Rattle.words.specs.Words.{bytesOf}
-use Rattle.vectors.proofs.WordLaws.{stored}
-use Rattle.vectors.proofs.layout.put_word.Statement.{statement}
-use Rattle.vectors.proofs.layout.put_word.Tie as tie
+use Rattle.shown.proofs.WordLaws.{stored}
+use Rattle.shown.proofs.layout.put_word.Statement.{statement}
+use Rattle.shown.proofs.layout.put_word.Tie as tie
 
 cast-out : tie.Need-cast-out
 cast-out c = search needs

@@ -1,4 +1,4 @@
--- `vectors::layout::put_words` meets its contract. What is left to write are the words from i on.
+-- `shown::layout::put_words` meets its contract. What is left to write are the words from i on.
 use Prim.Native.Nat.{_+_, _-_, _*_, _≤_}
 use mathlib.Core.Path.{_≡_, refl}
 use native.Mathlib.Nat.{add-zero}
@@ -7,9 +7,9 @@ use borrow.Author.Needs.{needs}
 use lib.ListN.{length, drop}
 use Rattle.words.specs.Words.{bytesOfWords}
 use Rattle.listing.specs.Lines.{placedAt}
-use Rattle.vectors.proofs.WordLaws.{words-turn, words-all}
-use Rattle.vectors.proofs.layout.put_words.Statement.{statement}
-use Rattle.vectors.proofs.layout.put_words.Tie as tie
+use Rattle.shown.proofs.WordLaws.{words-turn, words-all}
+use Rattle.shown.proofs.layout.put_words.Statement.{statement}
+use Rattle.shown.proofs.layout.put_words.Tie as tie
 
 abbrev Inv-loop : tie.InvT-loop
 Inv-loop out₀ at words i₀ out i =
