@@ -10,7 +10,7 @@ use lib.Dec.{eqb}
 use borrow.Author.Tests.{lt-ltb, le-ltb, eq-eqb, ne-eqb}
 use Rattle.words.specs.Words.{numberAt, word32}
 use Rattle.listing.specs.Lines.{refusedLine, cutLine, placedAt}
-use Rattle.listing.specs.Npalist.{Next, nextBlock, Listed, blockListed, stopped, mostBytes, listed}
+use Rattle.listing.specs.Npalist.{Next, nextBlock, Listed, blockListed, stopped, mostBytes, bytesDue, listed}
 
 -- a stream s, with blocks of at most so many bytes
 module _ (most : ℕ) (s : List ℕ) where
@@ -101,3 +101,22 @@ module _ (number : ℕ) (l s : List ℕ) where
             let same : word32 s 0 ≡ 4 + n - 4 = omega (arith, word) in
             ap (listed number l) (next-block (mostBytes number) s some h (omega (arith, word)) (omega (arith, word)))
             ∙ ap (λ k. blockListed number l (take k (drop 4 s))) same
+
+-- the bytes due behind a length, by the tests that are made of it
+module _ (number : ℕ) (head : List ℕ) where
+  pub due-cut : length head < 4 → bytesDue number head ≡ 0
+  unfolding bytesDue
+  due-cut h = rw (lt-ltb (length head) 4 h)
+
+  module _ (h : 4 ≤ length head) (most n : ℕ) (e : most ≡ mostBytes number) (w : n ≡ numberAt 4 head 0) where
+    length-word : n ≡ word32 head 0
+    unfolding word32
+    length-word = w
+
+    pub due-over : most < n → bytesDue number head ≡ 0
+    unfolding bytesDue
+    due-over k = rw (le-ltb (length head) 4 h, ← length-word, ← e, lt-ltb most n k)
+
+    pub due-whole : n ≤ most → bytesDue number head ≡ n
+    unfolding bytesDue
+    due-whole k = rw (le-ltb (length head) 4 h, ← length-word, ← e, le-ltb most n k)

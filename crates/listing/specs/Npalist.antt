@@ -85,6 +85,10 @@ stopped ledger bytes = record { printed = bytes; ledger = ledger; on = false }
 unfoldable pub mostBytes : ℕ → ℕ
 mostBytes number = cond (eqb number 0) mostBlockBytes mostFileBytes
 
+-- how many bytes are due behind a length: those of its block, or none where it is cut or over the limit
+unfoldable pub bytesDue : ℕ → List ℕ → ℕ
+bytesDue number head = let n = word32 head 0 in cond (ltb (length head) 4) 0 (cond (ltb (mostBytes number) n) 0 n)
+
 -- what comes next in a stream: it may not end before the opening, and an over-long length is a 1 or a 7
 unfoldable pub listed : ℕ → List ℕ → Next → Listed
 listed number ledger ended = stopped ledger (cond (eqb number 0) (cutLine 0) [])

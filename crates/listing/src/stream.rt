@@ -12,7 +12,7 @@ ghost use Prim.Native.Nat.{_+_, _*_, _≤_};
 ghost use lib.ListN.{length};
 ghost use lib.Dec.{eqb};
 ghost use Rattle.listing.specs.Lines.{cutLine, placedAt};
-ghost use Rattle.listing.specs.Npalist.{mostBytes, nextBlock, listed};
+ghost use Rattle.listing.specs.Npalist.{mostBytes, bytesDue, nextBlock, listed};
 
 const LENGTH_BYTES: usize = 4;
 
@@ -23,11 +23,27 @@ const MOST_FILE_BYTES: usize = 49152;
 // The most bytes of a block.
 fn most_bytes(number: u64) -> usize
     ensures { λ r. ⌜ r ≡ mostBytes number ⌝ }
+    ensures { λ r. ⌜ r ≤ 49152 ⌝ }
 {
     if number == 0 {
         return MOST_BLOCK_BYTES;
     }
     MOST_FILE_BYTES
+}
+
+// How many bytes are due behind a length: those of its block, or none where it is cut or over the limit.
+pub fn bytes_due(number: u64, head: &[u8]) -> usize
+    ensures { λ r. ⌜ r ≡ bytesDue number (now (head .entry)) ⌝ }
+    ensures { λ r. ⌜ r ≤ 49152 ⌝ }
+{
+    if head.len() < LENGTH_BYTES {
+        return 0;
+    }
+    let n = word32(head, 0) as usize;
+    if most_bytes(number) < n {
+        return 0;
+    }
+    n
 }
 
 // The ground of a length over the limit.

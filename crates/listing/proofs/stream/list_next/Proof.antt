@@ -62,7 +62,7 @@ returns-3 c =
     let ground = put .before in
     let most = ground .before .before .before in
     let n = most .before in
-    stops _ _ _ _ _ _ _ _ (listed-over _ _ _ (n .before .before .if1 .left) (omega arith) _ _ (most .most-bytes .ensures) (n .word32 .ensures .0) _ (ground .over-long .ensures) (omega arith))
+    stops _ _ _ _ _ _ _ _ (listed-over _ _ _ (n .before .before .if1 .left) (omega arith) _ _ (most .most-bytes .ensures .0) (n .word32 .ensures .0) _ (ground .over-long .ensures) (omega arith))
     (put .put-refused .ensures .0) (put .put-refused .ensures .1 .0) (c .stop3 .ensures .0) (c .stop3 .ensures .1) (omega arith)
 
 put-cut-requires-2 : tie.Need-put-cut-requires-2
@@ -79,7 +79,7 @@ returns-4 c =
     let put = c .before .before .before in
     let most = put .before .before .before .before in
     let n = most .before in
-    stops _ _ _ _ _ _ _ _ (listed-short _ _ _ (n .before .before .if1 .left) (omega arith) _ _ (most .most-bytes .ensures) (n .word32 .ensures .0) (omega arith) (omega arith))
+    stops _ _ _ _ _ _ _ _ (listed-short _ _ _ (n .before .before .if1 .left) (omega arith) _ _ (most .most-bytes .ensures .0) (n .word32 .ensures .0) (omega arith) (omega arith))
     (put .put-cut2 .ensures .0) (put .put-cut2 .ensures .1 .0) (c .stop4 .ensures .0) (c .stop4 .ensures .1) (omega arith)
 
 add-list-block : tie.Need-add-list-block
@@ -111,7 +111,7 @@ returns-5 c =
     let b = c .before .before .before .before .before .before in
     let most = b .before .before .before .before .before .before .before in
     let n = most .before in
-    come-to _ _ _ _ _ _ _ (listed-block _ _ _ (n .before .before .if1 .left) (omega arith) _ _ (most .most-bytes .ensures) (n .word32 .ensures .0) (omega arith) (omega arith))
+    come-to _ _ _ _ _ _ _ (listed-block _ _ _ (n .before .before .if1 .left) (omega arith) _ _ (most .most-bytes .ensures .0) (n .word32 .ensures .0) (omega arith) (omega arith))
     (b .list-block .ensures .0) (b .list-block .ensures .1 .0) (b .list-block .ensures .1 .1 .0) (b .list-block .ensures .1 .1 .1 .0) (omega arith)
 
 pub list-next-spec : {M : Type 1} → statement M
