@@ -3,8 +3,8 @@ use Prim.Native.Nat.{ℕ}
 use Rattle.year.specs.Claims.{wordsIn}
 use Rattle.settling.proofs.Computing.{computing as settling-computing}
 use Rattle.listing.specs.Lines.{text, digits, decimal, line, heading, refusedLine, cutLine, placedAt}
-use Rattle.listing.specs.Npalist.{nextBlock, rowLines, poolLine, intervalLines, ledgerBuffer, resultBuffer, openingListed, intervalListed, stopped, mostBytes, listed, after, lines, npalist}
+use Rattle.listing.specs.Npalist.{nextBlock, rowLines, poolLine, intervalLines, ledgerBuffer, resultBuffer, openingListed, intervalListed, blockListed, stopped, mostBytes, bytesDue, listed, after, lines, npalist}
 
 unfoldable pub computing : ℕ
-unfolding settling-computing wordsIn text digits decimal line heading refusedLine cutLine placedAt nextBlock rowLines poolLine intervalLines ledgerBuffer resultBuffer openingListed intervalListed stopped mostBytes listed after lines npalist
+unfolding settling-computing wordsIn text digits decimal line heading refusedLine cutLine placedAt nextBlock rowLines poolLine intervalLines ledgerBuffer resultBuffer openingListed intervalListed blockListed stopped mostBytes bytesDue listed after lines npalist
 computing = 0

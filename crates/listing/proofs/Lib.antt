@@ -4,3 +4,4 @@ pub mod Placing
 pub mod Digits
 pub mod LineLaws
 pub mod BlockLaws
+pub mod StreamLaws

@@ -73,20 +73,28 @@ intervalListed number ledger file =
     let a = settling ledger file resultBuffer in
     record { printed = intervalLines number file a; ledger = a .ledger; on = true }
 
+-- a block: the opening is block 0
+unfoldable pub blockListed : ℕ → List ℕ → List ℕ → Listed
+blockListed number ledger bytes = cond (eqb number 0) (openingListed bytes) (intervalListed number ledger bytes)
+
 -- an end of the listing, after these bytes
 unfoldable pub stopped : List ℕ → List ℕ → Listed
 stopped ledger bytes = record { printed = bytes; ledger = ledger; on = false }
 
--- the most bytes of a block: the opening is block 0
+-- the most bytes of a block
 unfoldable pub mostBytes : ℕ → ℕ
 mostBytes number = cond (eqb number 0) mostBlockBytes mostFileBytes
+
+-- how many bytes are due behind a length: those of its block, or none where it is cut or over the limit
+unfoldable pub bytesDue : ℕ → List ℕ → ℕ
+bytesDue number head = let n = word32 head 0 in cond (ltb (length head) 4) 0 (cond (ltb (mostBytes number) n) 0 n)
 
 -- what comes next in a stream: it may not end before the opening, and an over-long length is a 1 or a 7
 unfoldable pub listed : ℕ → List ℕ → Next → Listed
 listed number ledger ended = stopped ledger (cond (eqb number 0) (cutLine 0) [])
 listed number ledger cut = stopped ledger (cutLine number)
 listed number ledger overLong = stopped ledger (refusedLine number (cond (eqb number 0) 1 7))
-listed number ledger (block bytes rest) = cond (eqb number 0) (openingListed bytes) (intervalListed number ledger bytes)
+listed number ledger (block bytes rest) = blockListed number ledger bytes
 
 -- the stream after what comes next
 unfoldable pub after : Next → List ℕ

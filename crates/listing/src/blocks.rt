@@ -15,7 +15,7 @@ ghost use Prim.Native.Nat.{_+_, _*_, _≤_};
 ghost use lib.ListN.{length, drop, replicate};
 ghost use Rattle.reading.specs.Interval.{headerOf, rowsOf};
 ghost use Rattle.listing.specs.Lines.{placedAt};
-ghost use Rattle.listing.specs.Npalist.{rowLines, openingListed, intervalListed};
+ghost use Rattle.listing.specs.Npalist.{rowLines, openingListed, intervalListed, blockListed};
 
 const ROW_BYTES: usize = 56;
 
@@ -110,4 +110,28 @@ pub fn list_opening(block: &[u8], ledger: &mut [u8], out: &mut [u8]) -> Listed
         return Listed { end, on: false };
     }
     Listed { end: 0, on: true }
+}
+
+// Opens or settles a block, and writes what it prints.
+pub fn list_block(
+    number: u64,
+    block: &[u8],
+    ledger: &mut [u8],
+    result: &mut [u8],
+    out: &mut [u8],
+) -> Listed
+    requires { ⌜ length (now ledger) ≡ 64 + 32 * 512 ⌝ }
+    requires { ⌜ length (now result) ≡ 64 + 64 * 512 ⌝ }
+    requires { ⌜ 512 * 210 + 110 ≤ length (now out) ⌝ }
+    ensures { λ _. ⌜ now (ledger .exit) ≡ blockListed number (now (ledger .entry)) (now (block .entry)) .ledger ⌝ }
+    ensures { λ _. ⌜ now (out .exit) ≡ placedAt 0 (blockListed number (now (ledger .entry)) (now (block .entry)) .printed) (now (out .entry)) ⌝ }
+    ensures { λ r. ⌜ r .end ≡ length (blockListed number (now (ledger .entry)) (now (block .entry)) .printed) ⌝ }
+    ensures { λ r. ⌜ r .on ≡ blockListed number (now (ledger .entry)) (now (block .entry)) .on ⌝ }
+    ensures { λ r. ⌜ r .end ≤ 512 * 210 + 110 ⌝ }
+{
+    if number == 0 {
+        return list_opening(block, ledger, out);
+    }
+    let end = list_interval(number, ledger, block, result, out);
+    Listed { end, on: true }
 }

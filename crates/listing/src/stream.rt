@@ -1,0 +1,118 @@
+// What npalist does with a stream, one block after the other.
+
+use crate::blocks::Listed;
+use crate::blocks::list_block;
+use crate::lines::put_cut;
+use crate::lines::put_refused;
+use words::word32;
+ghost use mathlib.Core.Path.{_≡_};
+ghost use mathlib.Core.List.{[]};
+ghost use mathlib.Core.Bool.{false, cond};
+ghost use Prim.Native.Nat.{_+_, _*_, _≤_};
+ghost use lib.ListN.{length};
+ghost use lib.Dec.{eqb};
+ghost use Rattle.listing.specs.Lines.{cutLine, placedAt};
+ghost use Rattle.listing.specs.Npalist.{mostBytes, bytesDue, nextBlock, listed};
+
+const LENGTH_BYTES: usize = 4;
+
+const MOST_BLOCK_BYTES: usize = 4096;
+
+const MOST_FILE_BYTES: usize = 49152;
+
+// The most bytes of a block.
+fn most_bytes(number: u64) -> usize
+    ensures { λ r. ⌜ r ≡ mostBytes number ⌝ }
+    ensures { λ r. ⌜ r ≤ 49152 ⌝ }
+{
+    if number == 0 {
+        return MOST_BLOCK_BYTES;
+    }
+    MOST_FILE_BYTES
+}
+
+// How many bytes are due behind a length: those of its block, or none where it is cut or over the limit.
+pub fn bytes_due(number: u64, head: &[u8]) -> usize
+    ensures { λ r. ⌜ r ≡ bytesDue number (now (head .entry)) ⌝ }
+    ensures { λ r. ⌜ r ≤ 49152 ⌝ }
+{
+    if head.len() < LENGTH_BYTES {
+        return 0;
+    }
+    let n = word32(head, 0) as usize;
+    if most_bytes(number) < n {
+        return 0;
+    }
+    n
+}
+
+// The ground of a length over the limit.
+fn over_long(number: u64) -> u64
+    ensures { λ r. ⌜ r ≡ cond (eqb number 0) 1 7 ⌝ }
+{
+    if number == 0 {
+        return 1;
+    }
+    7
+}
+
+// Writes a cut if the stream ends before the opening, and nothing if it ends later.
+fn put_end(number: u64, out: &mut [u8]) -> usize
+    requires { ⌜ 25 ≤ length (now out) ⌝ }
+    ensures { λ _. ⌜ now (out .exit) ≡ placedAt 0 (cond (eqb number 0) (cutLine 0) []) (now (out .entry)) ⌝ }
+    ensures { λ r. ⌜ r ≡ length (cond (eqb number 0) (cutLine 0) []) ⌝ }
+    ensures { λ r. ⌜ r ≤ 25 ⌝ }
+{
+    if number == 0 {
+        return put_cut(out, 0, 0);
+    }
+    0
+}
+
+// The listing stops after what it has printed.
+fn stop(end: usize) -> Listed
+    ensures { λ r. ⌜ r .end ≡ end ⌝ }
+    ensures { λ r. ⌜ r .on ≡ false ⌝ }
+{
+    Listed { end, on: false }
+}
+
+// What comes next in a stream: a block after its length, or an end. Nothing behind the block is read.
+pub fn list_next(
+    number: u64,
+    s: &[u8],
+    ledger: &mut [u8],
+    result: &mut [u8],
+    out: &mut [u8],
+) -> Listed
+    requires { ⌜ length (now ledger) ≡ 64 + 32 * 512 ⌝ }
+    requires { ⌜ length (now result) ≡ 64 + 64 * 512 ⌝ }
+    requires { ⌜ 512 * 210 + 110 ≤ length (now out) ⌝ }
+    ensures { λ _. ⌜ now (ledger .exit) ≡ listed number (now (ledger .entry)) (nextBlock (mostBytes number) (now (s .entry))) .ledger ⌝ }
+    ensures { λ _. ⌜ now (out .exit) ≡ placedAt 0 (listed number (now (ledger .entry)) (nextBlock (mostBytes number) (now (s .entry))) .printed) (now (out .entry)) ⌝ }
+    ensures { λ r. ⌜ r .end ≡ length (listed number (now (ledger .entry)) (nextBlock (mostBytes number) (now (s .entry))) .printed) ⌝ }
+    ensures { λ r. ⌜ r .on ≡ listed number (now (ledger .entry)) (nextBlock (mostBytes number) (now (s .entry))) .on ⌝ }
+    ensures { λ r. ⌜ r .end ≤ 512 * 210 + 110 ⌝ }
+{
+    let came = s.len();
+    if came == 0 {
+        return stop(put_end(number, out));
+    }
+    if came < LENGTH_BYTES {
+        return stop(put_cut(out, 0, number));
+    }
+    let n = word32(s, 0) as usize;
+    if most_bytes(number) < n {
+        return stop(put_refused(out, 0, number, over_long(number)));
+    }
+    if came - LENGTH_BYTES < n {
+        return stop(put_cut(out, 0, number));
+    }
+    list_block(
+        number,
+        &s[LENGTH_BYTES..LENGTH_BYTES + n],
+        ledger,
+        result,
+        out,
+    )
+}

@@ -1,0 +1,122 @@
+// npalist: reads an opening block and interval files from standard input, settles them, and prints a listing.
+
+use libc::STDIN_FILENO;
+use libc::STDOUT_FILENO;
+use listing::lines::put_heading;
+use listing::stream::bytes_due;
+use listing::stream::list_next;
+ghost use mathlib.Core.Path.{_≡_};
+ghost use Prim.Native.Nat.{_+_, _*_, _≤_};
+ghost use lib.ListN.{length, take};
+ghost use Rattle.listing.specs.Lines.{placedAt};
+ghost use Rattle.listing.specs.Npalist.{mostBytes, bytesDue, nextBlock, listed};
+
+const LENGTH_BYTES: usize = 4;
+
+// A loop that is proved has to end, and nothing says that standard input does: no stream has so many blocks.
+const MOST_BLOCKS: u64 = 1099511627776;
+
+// What came from the stream and what it comes to: the end of the bytes to print, and whether the listing goes on.
+struct Step {
+    came: usize,
+    end: usize,
+    on: bool,
+}
+
+// Reads a length and the block that is due behind it, and no byte more; answers how many bytes came before the stream ended.
+fn read_next(number: u64, stream: &mut [u8]) -> usize
+    requires { ⌜ length (now stream) ≡ 4 + 49152 ⌝ }
+    ensures { λ r. ⌜ r ≤ 4 + bytesDue number (take 4 (now (stream .exit))) ⌝ }
+    ensures { λ r. ⌜ r ≤ 4 + 49152 ⌝ }
+{
+    let came = io::read_full(STDIN_FILENO, &mut stream[..LENGTH_BYTES]);
+    if came < LENGTH_BYTES {
+        return came;
+    }
+    let due = bytes_due(number, &stream[..LENGTH_BYTES]);
+    let end = LENGTH_BYTES + due;
+    LENGTH_BYTES + io::read_full(STDIN_FILENO, &mut stream[LENGTH_BYTES..end])
+}
+
+// Reads what comes next, and does what it asks for.
+fn next_step(
+    number: u64,
+    stream: &mut [u8],
+    ledger: &mut [u8],
+    result: &mut [u8],
+    out: &mut [u8],
+) -> Step
+    requires { ⌜ length (now stream) ≡ 4 + 49152 ⌝ }
+    requires { ⌜ length (now ledger) ≡ 64 + 32 * 512 ⌝ }
+    requires { ⌜ length (now result) ≡ 64 + 64 * 512 ⌝ }
+    requires { ⌜ 512 * 210 + 110 ≤ length (now out) ⌝ }
+    ensures { λ r. ⌜ now (ledger .exit) ≡ listed number (now (ledger .entry)) (nextBlock (mostBytes number) (take (r .came) (now (stream .exit)))) .ledger ⌝ }
+    ensures { λ r. ⌜ now (out .exit) ≡ placedAt 0 (listed number (now (ledger .entry)) (nextBlock (mostBytes number) (take (r .came) (now (stream .exit)))) .printed) (now (out .entry)) ⌝ }
+    ensures { λ r. ⌜ r .end ≡ length (listed number (now (ledger .entry)) (nextBlock (mostBytes number) (take (r .came) (now (stream .exit)))) .printed) ⌝ }
+    ensures { λ r. ⌜ r .on ≡ listed number (now (ledger .entry)) (nextBlock (mostBytes number) (take (r .came) (now (stream .exit)))) .on ⌝ }
+    ensures { λ r. ⌜ r .came ≤ 4 + bytesDue number (take 4 (now (stream .exit))) ⌝ }
+    ensures { λ r. ⌜ r .end ≤ 512 * 210 + 110 ⌝ }
+{
+    let came = read_next(number, stream);
+    let next = list_next(number, &stream[..came], ledger, result, out);
+    Step {
+        came,
+        end: next.end,
+        on: next.on,
+    }
+}
+
+// Prints what stands at the front of a buffer, and answers whether that was possible.
+fn print(out: &[u8], end: usize) -> bool
+    requires { ⌜ end ≤ length (now out) ⌝ }
+{
+    io::write_all(STDOUT_FILENO, &out[..end])
+}
+
+// Reads what comes next, does what it asks for, and prints it; answers whether to go on.
+fn list_one(
+    number: u64,
+    stream: &mut [u8],
+    ledger: &mut [u8],
+    result: &mut [u8],
+    out: &mut [u8],
+) -> bool
+    requires { ⌜ length (now stream) ≡ 4 + 49152 ⌝ }
+    requires { ⌜ length (now ledger) ≡ 64 + 32 * 512 ⌝ }
+    requires { ⌜ length (now result) ≡ 64 + 64 * 512 ⌝ }
+    requires { ⌜ 512 * 210 + 110 ≤ length (now out) ⌝ }
+{
+    let next = next_step(number, stream, ledger, result, out);
+    if !print(out, next.end) {
+        return false;
+    }
+    next.on
+}
+
+// Prints the heading, then block after block, until the listing stops or the output is closed.
+fn run(stream: &mut [u8], ledger: &mut [u8], result: &mut [u8], out: &mut [u8])
+    requires { ⌜ length (now stream) ≡ 4 + 49152 ⌝ }
+    requires { ⌜ length (now ledger) ≡ 64 + 32 * 512 ⌝ }
+    requires { ⌜ length (now result) ≡ 64 + 64 * 512 ⌝ }
+    requires { ⌜ 512 * 210 + 110 ≤ length (now out) ⌝ }
+{
+    let end = put_heading(out, 0);
+    if !print(out, end) {
+        return;
+    }
+    let mut number = 0;
+    while number < MOST_BLOCKS {
+        if !list_one(number, stream, ledger, result, out) {
+            return;
+        }
+        number += 1;
+    }
+}
+
+fn main() {
+    let mut stream = [0u8; 49156];
+    let mut ledger = [0u8; 16448];
+    let mut result = [0u8; 32832];
+    let mut out = [0u8; 107630];
+    run(&mut stream, &mut ledger, &mut result, &mut out);
+}
