@@ -213,17 +213,27 @@ pub fn long(rng: &mut Rng) -> Vec<Case> {
     for interval in 0..6_000 {
         push_block(&mut accepted, &listing::file(17 * interval).bytes());
     }
-    let year = random::year(rng, &SMALL, 4_000);
-    let mut mixed = stream_of(&[&year.block]);
-    for (file, _) in &year.calls {
-        push_block(&mut mixed, file);
-    }
     vec![
         Case::new("120000 empty blocks", empty),
         Case::new("6000 accepted files", accepted),
-        Case::new("4000 files, accepted and refused", mixed),
+        Case::new("4000 files, accepted and refused", mixed(rng)),
         Case::new("40 full files", full_intervals(40)),
     ]
+}
+
+/// A year of 4000 files that is not over soon.
+fn mixed(rng: &mut Rng) -> Vec<u8> {
+    loop {
+        let year = random::year(rng, &SMALL, 4_000);
+        let mut stream = stream_of(&[&year.block]);
+        for (file, _) in &year.calls {
+            push_block(&mut stream, file);
+        }
+        let listing = npalist(&stream);
+        if listing.windows(5).filter(|line| line == b"pool,").count() > 2_000 {
+            return stream;
+        }
+    }
 }
 
 /// The random stream with this number.
