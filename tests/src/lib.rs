@@ -3,7 +3,9 @@
 
 pub mod layout;
 pub mod listing;
+pub mod program;
 pub mod random;
 pub mod reference;
 pub mod small;
+pub mod streams;
 pub mod sums;

@@ -1,0 +1,247 @@
+//! Streams for the listing program: whole, refused at every ground, cut everywhere, at every limit, and long.
+
+use crate::layout::{IntervalFile, Ledger, Opening, Row};
+use crate::listing;
+use crate::random::{
+    self, damage_settle, damaged_open, push_block, Rng, SettleCase, World, FULL, MIDDLE, SMALL,
+};
+use crate::reference::{npalist, open};
+
+/// A stream and what it is called.
+pub struct Case {
+    pub name: String,
+    pub stream: Vec<u8>,
+}
+
+impl Case {
+    fn new(name: impl Into<String>, stream: Vec<u8>) -> Self {
+        let name = name.into();
+        Case { name, stream }
+    }
+}
+
+/// A stream of blocks, each behind its length.
+pub fn stream_of(blocks: &[&[u8]]) -> Vec<u8> {
+    let mut stream = Vec::new();
+    for block in blocks {
+        push_block(&mut stream, block);
+    }
+    stream
+}
+
+/// The opening of document 01 and its file, for two intervals.
+pub fn two_intervals() -> Vec<u8> {
+    let [first, second] = [1000, 1001].map(|interval| listing::file(interval).bytes());
+    stream_of(&[&listing::opening().bytes(), &first, &second])
+}
+
+/// The stream of document 01, cut at every byte.
+pub fn prefixes() -> Vec<Case> {
+    let stream = two_intervals();
+    let cut = |length: usize| Case::new(format!("{length} bytes"), stream[..length].to_vec());
+    (0..=stream.len()).map(cut).collect()
+}
+
+/// Openings that each ground refuses, so many of each, with a file behind them.
+pub fn refused_openings(rng: &mut Rng, each: usize) -> Vec<Case> {
+    let file = listing::file(1000).bytes();
+    let mut cases = Vec::new();
+    for ground in 1..=4 {
+        for number in 0..each {
+            let block = loop {
+                let block = damaged_open(rng, &FULL, ground).call(rng).block;
+                if open(&block, &mut vec![0; 16_448]) == ground {
+                    break block;
+                }
+            };
+            let name = format!("opening refused by {ground}, number {number}");
+            cases.push(Case::new(name, stream_of(&[&block, &file])));
+        }
+    }
+    cases
+}
+
+/// Files that each ground refuses, so many of each, between two accepted ones.
+pub fn refused_files(rng: &mut Rng, each: usize) -> Vec<Case> {
+    let mut cases = Vec::new();
+    for ground in 7..=14 {
+        for number in 0..each {
+            let name = format!("file refused by {ground}, number {number}");
+            cases.push(Case::new(name, refused_in_the_middle(rng, ground)));
+        }
+    }
+    cases.push(Case::new("file refused by 16", full_pool()));
+    cases
+}
+
+/// A stream of three files, of which this ground refuses the second and nothing the others.
+fn refused_in_the_middle(rng: &mut Rng, ground: u32) -> Vec<u8> {
+    loop {
+        let world = World::any(rng, &MIDDLE);
+        let [first, last] = [10, 12].map(|interval| world.file(rng, &MIDDLE, interval).bytes());
+        let mut case = SettleCase {
+            ledger: Ledger::new(world.net_cone, world.days, &world.ids),
+            file: world.file(rng, &MIDDLE, 11),
+            result_length: 64 + 64 * 512,
+        };
+        damage_settle(rng, &MIDDLE, ground, &mut case);
+        if ground == 10 {
+            case.file.head[1] = rng.below(11) as u32;
+        }
+        let opening = world.opening(rng, &MIDDLE).bytes();
+        let refused = case.call(rng).file;
+        let stream = stream_of(&[&opening, &first, &refused, &last]);
+        let listing = String::from_utf8(npalist(&stream)).expect("a listing is text");
+        let refusals: Vec<&str> = listing
+            .lines()
+            .filter(|line| line.starts_with('r'))
+            .collect();
+        if refusals == [format!("refused,2,{ground}")] && listing.contains("\npool,12,") {
+            return stream;
+        }
+    }
+}
+
+/// Two intervals that fill the pool, one too many, and a smaller one in its place.
+fn full_pool() -> Vec<u8> {
+    let ids: Vec<u32> = (1..=512).collect();
+    let file = |interval: u32, rows: usize| {
+        let row = |id: &u32| Row {
+            id: *id,
+            kind: 1,
+            committed: 4_000_000,
+            ..Row::default()
+        };
+        let rows = ids[..rows].iter().map(|id| row(id).words()).collect();
+        IntervalFile::new(200_000, 366, interval, rows, Vec::new()).bytes()
+    };
+    let opening = Opening::new(200_000, 366, &ids).bytes();
+    let files = [file(0, 512), file(1, 512), file(2, 512), file(2, 100)];
+    let files = files.each_ref().map(|file| &file[..]);
+    stream_of(&[&[&opening[..]], &files[..]].concat())
+}
+
+/// Blocks with lengths at, below and over each limit: whole, cut behind the length, and cut inside.
+pub fn lengths() -> Vec<Case> {
+    let whole = two_intervals();
+    let opening = stream_of(&[&listing::opening().bytes()]);
+    let mut cases = Vec::new();
+    let far = [1 << 16, 1 << 24, 1 << 31, u32::MAX];
+    for length in [
+        &[0, 1, 19, 20, 35, 36, 37, 4095, 4096, 4097, 49_152][..],
+        &far,
+    ]
+    .concat()
+    {
+        let mut block = listing::opening();
+        block.length = length.min(100_000) as usize;
+        cases.extend(at_length(
+            "opening",
+            &[],
+            &block.bytes(),
+            length,
+            &whole[opening.len()..],
+        ));
+    }
+    for length in [
+        &[0, 1, 39, 40, 41, 311, 312, 313, 49_151, 49_152, 49_153][..],
+        &far,
+    ]
+    .concat()
+    {
+        let mut file = listing::file(1002);
+        file.length = length.min(100_000) as usize;
+        let behind = stream_of(&[&listing::file(1003).bytes()]);
+        cases.extend(at_length("file", &whole, &file.bytes(), length, &behind));
+    }
+    cases.push(Case::new("limits reached", at_the_limits()));
+    cases
+}
+
+/// A block that is to have this length, between other bytes of a stream.
+fn at_length(name: &str, before: &[u8], block: &[u8], length: u32, behind: &[u8]) -> Vec<Case> {
+    let begun = [before, &length.to_le_bytes()].concat();
+    let inside = &block[..block.len() / 2];
+    let cases = [
+        ("followed", [&begun, block, behind].concat()),
+        ("last", [&begun, block].concat()),
+        ("cut inside", [&begun, inside].concat()),
+        ("cut behind its length", begun),
+    ];
+    let case = |(how, stream)| Case::new(format!("{name} of {length} bytes, {how}"), stream);
+    cases.into_iter().map(case).collect()
+}
+
+/// The longest opening with the most ids, and the longest file with the most rows and points, which all names.
+fn at_the_limits() -> Vec<u8> {
+    let world = full_world();
+    let mut opening = Opening::new(world.net_cone, world.days, &world.ids);
+    opening.place(4096 - 4 * 512, 0);
+    let mut file = world.full_file(&mut Rng::new(1), 0, 4);
+    file.place(40 + 8 * 2048, 40, 49_152);
+    let last = world.full_file(&mut Rng::new(2), 288 * 365 - 1, 4);
+    stream_of(&[&opening.bytes(), &file.bytes(), &last.bytes()])
+}
+
+/// A year with 512 plants.
+fn full_world() -> World {
+    World {
+        net_cone: 30_000,
+        days: 365,
+        ids: (1..=512).map(|index| 7 * index).collect(),
+        scale: 200_000,
+        short: false,
+    }
+}
+
+/// So many intervals of 512 rows with 4 points each.
+pub fn full_intervals(count: u32) -> Vec<u8> {
+    let world = full_world();
+    let mut rng = Rng::new(1);
+    let mut stream = stream_of(&[&Opening::new(world.net_cone, world.days, &world.ids).bytes()]);
+    for interval in 0..count {
+        push_block(&mut stream, &world.full_file(&mut rng, interval, 4).bytes());
+    }
+    stream
+}
+
+/// Streams of very many blocks.
+pub fn long(rng: &mut Rng) -> Vec<Case> {
+    let opening = stream_of(&[&listing::opening().bytes()]);
+    let empty = [opening.clone(), vec![0; 4 * 120_000]].concat();
+    let mut accepted = opening;
+    for interval in 0..6_000 {
+        push_block(&mut accepted, &listing::file(17 * interval).bytes());
+    }
+    vec![
+        Case::new("120000 empty blocks", empty),
+        Case::new("6000 accepted files", accepted),
+        Case::new("4000 files, accepted and refused", mixed(rng)),
+        Case::new("40 full files", full_intervals(40)),
+    ]
+}
+
+/// A year of 4000 files that is not over soon.
+fn mixed(rng: &mut Rng) -> Vec<u8> {
+    loop {
+        let year = random::year(rng, &SMALL, 4_000);
+        let mut stream = stream_of(&[&year.block]);
+        for (file, _) in &year.calls {
+            push_block(&mut stream, file);
+        }
+        let listing = npalist(&stream);
+        if listing.windows(5).filter(|line| line == b"pool,").count() > 2_000 {
+            return stream;
+        }
+    }
+}
+
+/// The random stream with this number.
+pub fn random_stream(rng: &mut Rng, number: u64) -> Case {
+    let stream = match number % 16 {
+        0 => random::stream(rng, &FULL, 5),
+        1..=4 => random::stream(rng, &MIDDLE, 10),
+        _ => random::stream(rng, &SMALL, 12),
+    };
+    Case::new(format!("random stream {number}"), stream)
+}
