@@ -2,6 +2,9 @@
 
 use shown::layout::Row;
 use shown::layout::put_words;
+ghost use mathlib.Core.Path.{_≡_};
+ghost use Rattle.ledger.specs.Figures.{listingBlock};
+ghost use Rattle.settling.specs.Listing.{listingFile};
 
 const BLOCK: [u64; 9] = [1, 30000, 365, 4, 20, 11, 12, 13, 14];
 
@@ -58,14 +61,18 @@ const POINTS: [u64; 12] = [
     40000,
 ];
 
-pub fn block() -> [u8; 36] {
+pub fn block() -> [u8; 36]
+    ensures { λ r. ⌜ r ≡ listingBlock ⌝ }
+{
     let mut block = [0u8; 36];
     put_words(&mut block, 0, &BLOCK);
     block
 }
 
 // Header, rows and points one behind the other.
-pub fn file(interval: u64) -> [u8; 312] {
+pub fn file(interval: u64) -> [u8; 312]
+    ensures { λ r. ⌜ r ≡ listingFile interval 0 0 ⌝ }
+{
     let mut file = [0u8; 312];
     let header = [1, interval, 30000, 365, 0, 0, 4, 40, 6, 264];
     put_words(&mut file, 0, &header);

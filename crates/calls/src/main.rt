@@ -11,12 +11,17 @@ use npa::npa_open;
 use npa::npa_settle;
 use shown::print::figure;
 use shown::print::words;
+ghost use mathlib.Core.Path.{_≡_};
 ghost use Prim.Native.Nat.{_≤_};
 ghost use lib.ListN.{length};
+ghost use Rattle.settling.specs.Settling.{settling};
+ghost use Rattle.settling.specs.Listing.{listingFile};
 
 // Settles the listing's file at an interval, and prints the answer.
 fn settle(label: &[u8], ledger: &mut [u8], interval: u64, result: &mut [u8])
     requires { ⌜ length (now label) ≤ 64 ⌝ }
+    ensures { λ _. ⌜ now (ledger .exit) ≡ settling (now (ledger .entry)) (listingFile interval 0 0) (now (result .entry)) .ledger ⌝ }
+    ensures { λ _. ⌜ now (result .exit) ≡ settling (now (ledger .entry)) (listingFile interval 0 0) (now (result .entry)) .result ⌝ }
 {
     figure(label, npa_settle(ledger, &file(interval), result) as u64);
 }
