@@ -30,7 +30,7 @@ loop-less c = search needs
 loop-again : tie.Need-loop-again Inv-loop μ-loop
 loop-again c =
     let l = c .before in
-    (omega arith, length-set (l .loop .buffer) (l .loop .i) 0 ∙ l .loop .inv .1, clear-turn _ _ _ (omega arith) (l .loop .inv .2))
+    (omega arith, length-set (l .loop .buffer) (l .loop .i) _ ∙ l .loop .inv .1, clear-turn _ _ _ (omega arith) (l .loop .inv .2))
 
 same-length : tie.Need-same-length Inv-loop μ-loop
 same-length c = search needs
