@@ -1,5 +1,6 @@
 // What a row's curve says at its LMP: the scheduled kW, and whether a PRD row is considered.
 
+use crate::rules::above as excess;
 use crate::units::Kilowatts;
 use reading::interval::COMMITTED;
 use reading::interval::KIND;
@@ -93,13 +94,6 @@ fn gap(a: i64, b: i64) -> u64
     (a - b) as u64
 }
 
-// a - b, or 0 where b is the larger: no order of the points is asked for.
-fn rise(a: u64, b: u64) -> u64
-    ensures { λ r. ⌜ r ≡ a - b ⌝ }
-{
-    if b < a { a - b } else { 0 }
-}
-
 // From a base on, a part of the whole way along a rise, rounded down.
 fn along(base: u64, part: u64, rise: u64, whole: u64) -> u64
     requires { ⌜ base < 2 ^ 32 ⌝ }
@@ -124,7 +118,7 @@ fn towards(points: &[u8], i: usize, lmp: i64) -> u64
     let low = price(points, i);
     let high = price(points, i + 1);
     let from = kw(points, i);
-    let more = rise(kw(points, i + 1), from);
+    let more = excess(kw(points, i + 1), from);
     along(from, gap(lmp, low), more, gap(high, low))
 }
 

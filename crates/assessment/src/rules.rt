@@ -68,7 +68,7 @@ fn greater(a: u64, b: u64) -> u64
 }
 
 // What a has above b, 0 if nothing.
-fn above(a: u64, b: u64) -> u64
+pub fn above(a: u64, b: u64) -> u64
     ensures { λ r. ⌜ r ≡ a - b ⌝ }
 {
     if a < b {

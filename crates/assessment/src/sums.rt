@@ -4,6 +4,7 @@ use crate::rules::denominator_share;
 use crate::rules::import_share;
 use crate::rules::numerator_share;
 use crate::units::Kilowatts;
+use reading::interval::ROW_BYTES;
 use reading::interval::ROWS;
 use reading::interval::ROWS_OFFSET;
 use reading::interval::curve_at;
@@ -15,8 +16,6 @@ ghost use lib.ListN.{length};
 ghost use Rattle.words.specs.Lists.{any};
 ghost use Rattle.reading.specs.Interval.{headerOf, rowsOf, pointsOutside};
 ghost use Rattle.assessment.specs.Assessment.{numerator, denominator};
-
-const ROW_BYTES: usize = 56;
 
 pub struct Sides {
     pub upper: Kilowatts,

@@ -6,6 +6,7 @@ use crate::lines::put_row_line;
 use ledger::opening::open;
 use reading::interval::ID;
 use reading::interval::INTERVAL;
+use reading::interval::ROW_BYTES;
 use reading::interval::ROWS;
 use reading::interval::ROWS_OFFSET;
 use reading::interval::word;
@@ -16,8 +17,6 @@ ghost use lib.ListN.{length, drop, replicate};
 ghost use Rattle.reading.specs.Interval.{headerOf, rowsOf};
 ghost use Rattle.listing.specs.Lines.{placedAt};
 ghost use Rattle.listing.specs.Npalist.{rowLines, openingListed, intervalListed, blockListed};
-
-const ROW_BYTES: usize = 56;
 
 const RESULT_HEADER_BYTES: usize = 64;
 

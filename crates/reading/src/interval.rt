@@ -29,7 +29,7 @@ const MOST_ROWS: u64 = 512;
 
 const MOST_POINTS: u64 = 2048;
 
-const ROW_BYTES: usize = 56;
+pub const ROW_BYTES: usize = 56;
 
 const POINT_BYTES: usize = 8;
 

@@ -13,6 +13,7 @@ use ledger::layout::NET_CONE;
 use ledger::layout::account_at;
 use ledger::layout::word as ledger_word;
 use reading::interval::ID;
+use reading::interval::ROW_BYTES;
 use reading::interval::ROWS;
 use reading::interval::ROWS_OFFSET;
 use reading::interval::curve_at;
@@ -25,8 +26,6 @@ ghost use Rattle.reading.specs.Interval.{headerOf, rowAt, rowsOf};
 ghost use Rattle.assessment.specs.Assessment.{numerator, denominator, raised as raisedBy, charge as chargeOf};
 ghost use Rattle.settling.specs.Settling.{assessedFile};
 ghost use Rattle.settling.specs.Scratch.{Passed, chargedWords};
-
-const ROW_BYTES: usize = 56;
 
 // What a row is charged for a shortfall: it first raises its account, and the limit is taken after that.
 fn row_charge(cone: u64, days: u64, a: Account, row: &[u8], short: Kilowatts) -> Cents

@@ -11,6 +11,7 @@ use reading::interval::DAYS;
 use reading::interval::ID;
 use reading::interval::INTERVAL;
 use reading::interval::NET_CONE;
+use reading::interval::ROW_BYTES;
 use reading::interval::ROWS;
 use reading::interval::ROWS_OFFSET;
 use reading::interval::header_outside;
@@ -27,8 +28,6 @@ ghost use Rattle.reading.specs.Block.{idsOutOfOrder};
 ghost use Rattle.reading.specs.Interval.{headerOf, rowsOf};
 ghost use Rattle.ledger.specs.Ledger.{ledgerOf, ledgerBytes, accountCount, idsIn};
 ghost use Rattle.settling.specs.Settling.{otherTerms, rowIdsUnknown, settlingGrounds};
-
-const ROW_BYTES: usize = 56;
 
 const RESULT_HEADER_BYTES: usize = 64;
 

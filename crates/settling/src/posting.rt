@@ -14,6 +14,7 @@ use ledger::layout::account_at;
 use ledger::layout::word as ledger_word;
 use ledger::layout::write_account;
 use reading::interval::ID;
+use reading::interval::ROW_BYTES;
 use reading::interval::ROWS;
 use reading::interval::ROWS_OFFSET;
 use reading::interval::word;
@@ -31,8 +32,6 @@ ghost use Rattle.assessment.specs.Assessment.{raised as raisedBy};
 ghost use Rattle.ledger.specs.Ledger.{accountWords, ledgerOf};
 ghost use Rattle.settling.specs.Settling.{rowWords, assessedFile, postedAll};
 ghost use Rattle.settling.specs.Scratch.{Passed};
-
-const ROW_BYTES: usize = 56;
 
 // Whether a file has a row i, and its id is this one.
 fn meets(file: &[u8], i: usize, id: u64) -> bool

@@ -16,6 +16,7 @@ use assessment::units::Cents;
 use assessment::units::Kilowatts;
 use reading::interval::COMMITTED;
 use reading::interval::POINT_COUNT;
+use reading::interval::ROW_BYTES;
 use reading::interval::header_outside;
 use reading::interval::not_a_file;
 use reading::interval::row_outside;
@@ -29,8 +30,6 @@ use shown::print::figure;
 use shown::print::test;
 ghost use Prim.Native.Nat.{_≤_};
 ghost use lib.ListN.{length};
-
-const ROW_BYTES: usize = 56;
 
 const MOST_KILOWATTS: u64 = 4000000;
 

@@ -56,8 +56,8 @@ add-kw c = search needs
 kw-requires-2 : tie.Need-kw-requires-2
 kw-requires-2 c κs = search needs
 
-rise-requires : tie.Need-rise-requires
-rise-requires c κs = search needs
+above-requires : tie.Need-above-requires
+above-requires c κs = search needs
 
 gap-requires : tie.Need-gap-requires
 gap-requires c κs =
@@ -94,7 +94,7 @@ towards-spec =
     kw-requires
     add-kw
     kw-requires-2
-    rise-requires
+    above-requires
     gap-requires
     gap-requires-2
     along-requires
