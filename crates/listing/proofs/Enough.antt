@@ -9,7 +9,7 @@ use lib.Seq.{length-take-le, take-all, take-take, take-add, drop-at, drop-drop}
 use lib.Dec.{ltb}
 use borrow.Author.Tests.{ltb-true, ltb-false}
 use Rattle.words.specs.Words.{number, numberAt, word32}
-use Rattle.listing.specs.Npalist.{Next, nextBlock, blockListed, mostBytes, bytesDue, listed, after}
+use Rattle.listing.specs.Npalist.{nextBlock, blockListed, mostBytes, bytesDue, listed, after}
 use Rattle.listing.proofs.StreamLaws.{next-over, next-block, due-whole}
 
 -- a number is in the first of its bytes
