@@ -5,3 +5,4 @@ pub mod Digits
 pub mod LineLaws
 pub mod BlockLaws
 pub mod StreamLaws
+pub mod Enough

@@ -4,11 +4,11 @@ use mathlib.Core.List.{List, [], _∷_, _++_}
 use mathlib.Core.Bool.{Bool, true, false, cond}
 use lib.ListN.{length, take, drop, replicate}
 use lib.Dec.{ltb, eqb}
-use Rattle.words.specs.Words.{word32, word64}
+use Rattle.words.specs.Words.{word32}
 use Rattle.reading.specs.Block.{mostBlockBytes, mostIds}
 use Rattle.reading.specs.Interval.{mostFileBytes, mostRows, Row, headerOf, rowsOf}
 use Rattle.ledger.specs.Ledger.{ledgerBytes}
-use Rattle.ledger.specs.Opening.{OpeningAnswer, opening}
+use Rattle.ledger.specs.Opening.{opening}
 use Rattle.settling.specs.Settling.{resultHeaderBytes, resultRowBytes, SettlingAnswer, settling}
 use Rattle.year.specs.Claims.{wordsIn}
 use Rattle.listing.specs.Lines.{text, line, heading, refusedLine, cutLine}

@@ -1,8 +1,7 @@
 -- `npalist::run` meets its contract. The buffers keep their lengths, and the numbers of blocks rise to a bound.
 use Prim.Native.Nat.{_-_, _≤_}
-use mathlib.Core.Path.{_≡_, refl}
+use mathlib.Core.Path.{_≡_}
 use lib.ListN.{length}
-use native.Mathlib.Omega.{arith}
 use borrow.Author.Needs.{needs}
 use Rattle.npalist.proofs.run.Statement.{statement}
 use Rattle.npalist.proofs.run.Tie as tie

@@ -40,7 +40,8 @@ unfolding blockListed intervalListed
 returns-2 c =
     let i = c .before .before .before .before .before .before in
     let else = i .before .before .before .before in
-    come-to _ _ _ _ _ _ _ (at-later _ _ _ (else .if1 .left)) (i .list-interval .ensures .0) (i .list-interval .ensures .1 .0) (i .list-interval .ensures .1 .1 .0) refl (omega arith)
+    let start = else .before .before .before .before .before in
+    come-to _ (intervalListed (start .args .number) (start .args .ledger .now) (start .args .block .now)) _ _ _ _ _ (at-later _ _ _ (else .if1 .left)) (i .list-interval .ensures .0) (i .list-interval .ensures .1 .0) (i .list-interval .ensures .1 .1 .0) refl (omega arith)
 
 pub list-block-spec : {M : Type 1} → statement M
 list-block-spec =

@@ -1,7 +1,6 @@
 -- `listing::blocks::list_opening` meets its contract. The ledger is all zeros before the call, and what opening answers says whether the listing goes on.
 use mathlib.Core.Path.{_∙_}
 use Rattle.listing.proofs.BlockLaws.{ledger-cleared, opening-refused, opening-opened}
-use native.Mathlib.Omega.{arith}
 use borrow.Author.Needs.{needs}
 use Rattle.listing.proofs.blocks.list_opening.Statement.{statement}
 use Rattle.listing.proofs.blocks.list_opening.Tie as tie

@@ -4,7 +4,6 @@ use mathlib.Core.Path.{_≡_, refl, sym, ap, _∙_}
 use lib.ListN.{length, drop}
 use borrow.Rule.Slice.PartAt.{part-to-end}
 use Rattle.reading.specs.Interval.{headerOf, rowsOf}
-use Rattle.assessment.proofs.SumLaws.{part-length}
 use Rattle.settling.proofs.SettlingTests.{row-id}
 use Rattle.listing.specs.Lines.{placedAt}
 use Rattle.listing.specs.Npalist.{rowLines}

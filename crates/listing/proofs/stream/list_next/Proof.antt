@@ -1,5 +1,5 @@
 -- `listing::stream::list_next` meets its contract. Each test tells what comes next, and each end writes its line.
-use mathlib.Core.Path.{sym, ap, _∙_}
+use mathlib.Core.Path.{sym, _∙_}
 use native.Mathlib.Nat.{zero-add}
 use Rattle.listing.proofs.StreamLaws.{stops, come-to, listed-ended, listed-cut, listed-over, listed-short, listed-block}
 use native.Mathlib.Omega.{arith}

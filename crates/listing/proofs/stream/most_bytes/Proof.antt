@@ -3,7 +3,6 @@ use mathlib.Core.Path.{sym}
 use Rattle.listing.specs.Npalist.{mostBytes}
 use Rattle.listing.proofs.StreamLaws.{at-first, at-later}
 use native.Mathlib.Omega.{arith}
-use borrow.Author.Needs.{needs}
 use Rattle.listing.proofs.stream.most_bytes.Statement.{statement}
 use Rattle.listing.proofs.stream.most_bytes.Tie as tie
 

@@ -1,8 +1,6 @@
 -- `listing::stream::over_long` meets its contract. The number decides.
 use mathlib.Core.Path.{sym}
 use Rattle.listing.proofs.StreamLaws.{at-first, at-later}
-use native.Mathlib.Omega.{arith}
-use borrow.Author.Needs.{needs}
 use Rattle.listing.proofs.stream.over_long.Statement.{statement}
 use Rattle.listing.proofs.stream.over_long.Tie as tie
 

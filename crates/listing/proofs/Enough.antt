@@ -1,0 +1,87 @@
+-- A block depends on no byte behind it: a length and the bytes due behind it are enough to read, and what is left is the rest of the stream.
+use Prim.Native.Nat.{ℕ, zero, suc, _+_, _-_, _*_, _≤_, _<_}
+use mathlib.Core.Path.{_≡_, refl, sym, ap, ap₂, _∙_}
+use mathlib.Core.List.{List, [], _∷_}
+use mathlib.Core.Bool.{Bool, true, false}
+use native.Mathlib.Omega.{arith}
+use lib.ListN.{length, take, drop}
+use lib.Seq.{length-take-le, take-all, take-take, take-add, drop-at, drop-drop}
+use lib.Dec.{ltb}
+use borrow.Author.Tests.{ltb-true, ltb-false}
+use Rattle.words.specs.Words.{number, numberAt, word32}
+use Rattle.listing.specs.Npalist.{nextBlock, blockListed, mostBytes, bytesDue, listed, after}
+use Rattle.listing.proofs.StreamLaws.{next-over, next-block, due-whole}
+
+-- a number is in the first of its bytes
+front-number : (n m : ℕ) (b : List ℕ) → n ≤ m → number n (take m b) ≡ number n b
+unfolding number
+front-number zero m b h = refl
+front-number (suc n) zero b h = absurd (omega arith)
+front-number (suc n) (suc m) [] h = refl
+front-number (suc n) (suc m) (x ∷ b) h = ap (λ k. x + 256 * k) (front-number n m b (omega arith))
+
+front-word : (m : ℕ) (s : List ℕ) → 4 ≤ m → word32 (take m s) 0 ≡ word32 s 0
+unfolding word32 numberAt
+front-word m s h = front-number 4 m s h
+
+-- a block that has been read with its length
+front-block : (n : ℕ) (s : List ℕ) → 4 ≤ length s → take n (drop 4 (take (4 + n) s)) ≡ take n (drop 4 s)
+front-block n s h =
+    ap (λ k. take n (drop 4 k)) (take-add 4 n s)
+    ∙ ap (take n) (drop-at (take 4 s) (take n (drop 4 s)) 4 (length-take-le 4 s h))
+    ∙ take-take n n (drop 4 s) (omega arith)
+
+-- a stream s where block `block` is next
+module _ (block : ℕ) (l s : List ℕ) where
+  -- the bytes due behind its length
+  abbrev pub due : ℕ
+  due = bytesDue block (take 4 s)
+
+  due-is : 4 ≤ length s → word32 s 0 ≤ mostBytes block → due ≡ word32 s 0
+  unfolding word32
+  due-is h k = due-whole block (take 4 s) (omega (arith, length-take-le 4 s h)) (mostBytes block) (word32 s 0) refl (sym (front-word 4 s (omega arith))) k
+
+  -- where more bytes are left than are read
+  module _ (more : 4 + due < length s) where
+    front : length (take (4 + due) s) ≡ 4 + due
+    front = length-take-le (4 + due) s (omega arith)
+
+    word : word32 (take (4 + due) s) 0 ≡ word32 s 0
+    word = front-word (4 + due) s (omega arith)
+
+    over : mostBytes block < word32 s 0 → nextBlock (mostBytes block) (take (4 + due) s) ≡ nextBlock (mostBytes block) s
+    over k =
+        next-over (mostBytes block) (take (4 + due) s) (λ e. omega (arith, front)) (omega (arith, front)) (omega (arith, word))
+        ∙ sym (next-over (mostBytes block) s (λ e. omega arith) (omega arith) k)
+
+    whole : word32 s 0 ≤ mostBytes block → listed block l (nextBlock (mostBytes block) (take (4 + due) s)) ≡ listed block l (nextBlock (mostBytes block) s)
+    unfolding listed
+    whole k =
+        let n = word32 s 0 in
+        let is : due ≡ n = due-is (omega arith) k in
+        let same : take (word32 (take (4 + due) s) 0) (drop 4 (take (4 + due) s)) ≡ take n (drop 4 s) =
+        ap₂ (λ a d. take a (drop 4 (take (4 + d) s))) word is ∙ front-block n s (omega arith)
+        in
+        ap (listed block l) (next-block (mostBytes block) (take (4 + due) s) (λ e. omega (arith, front)) (omega (arith, front)) (omega (arith, word)) (omega (arith, word, front, is)))
+        ∙ ap (blockListed block l) same
+        ∙ sym (ap (listed block l) (next-block (mostBytes block) s (λ e. omega arith) (omega arith) k (omega (arith, is))))
+
+    decide : (t : Bool) → ltb (mostBytes block) (word32 s 0) ≡ t → listed block l (nextBlock (mostBytes block) (take (4 + due) s)) ≡ listed block l (nextBlock (mostBytes block) s)
+    decide true e = ap (listed block l) (over (ltb-true (mostBytes block) (word32 s 0) e))
+    decide false e = whole (ltb-false (mostBytes block) (word32 s 0) e)
+
+  by-length : (t : Bool) → ltb (4 + due) (length s) ≡ t → listed block l (nextBlock (mostBytes block) (take (4 + due) s)) ≡ listed block l (nextBlock (mostBytes block) s)
+  by-length true e = decide (ltb-true (4 + due) (length s) e) (ltb (mostBytes block) (word32 s 0)) refl
+  by-length false e = ap (λ k. listed block l (nextBlock (mostBytes block) k)) (take-all (4 + due) s (ltb-false (4 + due) (length s) e))
+
+  -- a length and the bytes due behind it come to what the stream comes to
+  pub enough : listed block l (nextBlock (mostBytes block) (take (4 + due) s)) ≡ listed block l (nextBlock (mostBytes block) s)
+  enough = by-length (ltb (4 + due) (length s)) refl
+
+  -- and what is left behind a whole block is the rest of the stream
+  pub leaves : 4 ≤ length s → word32 s 0 ≤ mostBytes block → word32 s 0 ≤ length s - 4 → after (nextBlock (mostBytes block) s) ≡ drop (4 + due) s
+  unfolding after
+  leaves h k m =
+      ap after (next-block (mostBytes block) s (λ e. omega arith) h k m)
+      ∙ drop-drop (word32 s 0) 4 s
+      ∙ ap (λ n. drop (4 + n) s) (sym (due-is h k))
