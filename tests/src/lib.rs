@@ -3,6 +3,7 @@
 
 pub mod layout;
 pub mod listing;
+pub mod outcome;
 pub mod program;
 pub mod random;
 pub mod reference;

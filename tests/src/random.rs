@@ -697,7 +697,16 @@ fn charges_of(rng: &mut Rng, case: &SettleCase) -> u64 {
 /// Sets a field of an opening to one side or the other of a ground's boundary.
 pub fn damage_open(rng: &mut Rng, size: &Size, ground: u32, case: &mut OpenCase) {
     match ground {
-        1 => damage_block(rng, size, &mut case.opening),
+        1 => {
+            let opening = &mut case.opening;
+            damage_whole(
+                rng,
+                size,
+                (20, 4096),
+                &mut opening.length,
+                &mut opening.words[0],
+            );
+        }
         2 => damage_opening_terms(rng, &mut case.opening),
         3 => damage_id_table(rng, size, case),
         4 => damage_ids(rng, &mut case.opening.ids),
@@ -709,14 +718,20 @@ pub fn damage_open(rng: &mut Rng, size: &Size, ground: u32, case: &mut OpenCase)
     }
 }
 
-/// Ground 1: length and format.
-fn damage_block(rng: &mut Rng, size: &Size, opening: &mut Opening) {
+/// Grounds 1 and 7: a length around the least and the most, or another format.
+fn damage_whole(
+    rng: &mut Rng,
+    size: &Size,
+    (least, most): (usize, usize),
+    length: &mut usize,
+    format: &mut u32,
+) {
     if size.long && rng.one_in(3) {
-        opening.length = rng.pick(&[4096, 4097]);
+        *length = rng.pick(&[most, most + 1]);
     } else if rng.one_in(2) {
-        opening.length = rng.pick(&[0, 4, 19, 20]);
+        *length = rng.pick(&[0, 4, least - 1, least]);
     } else {
-        opening.words[0] = rng.pick(&[0, 2, 257, 0x0100_0001, u32::MAX]);
+        *format = rng.pick(&[0, 2, 257, 0x0100_0001, u32::MAX]);
     }
 }
 
@@ -790,7 +805,10 @@ fn damage_room(rng: &mut Rng, needed: usize, length: &mut usize) {
 pub fn damage_settle(rng: &mut Rng, size: &Size, ground: u32, case: &mut SettleCase) {
     match ground {
         6 => damage_ledger(rng, size, case),
-        7 => damage_file(rng, size, &mut case.file),
+        7 => {
+            let file = &mut case.file;
+            damage_whole(rng, size, (40, 49_152), &mut file.length, &mut file.head[0]);
+        }
         8 => damage_file_terms(rng, &mut case.file),
         9 => damage_event(rng, &mut case.file),
         10 => damage_order(rng, case),
@@ -924,17 +942,6 @@ fn damage_balance(rng: &mut Rng, ledger: &mut Ledger) {
         3 => ledger.words[4] += 1,
         4 => ledger.words[4] = ledger.words[4].saturating_sub(1),
         _ => account[3] += HIGH,
-    }
-}
-
-/// Ground 7: length and format.
-fn damage_file(rng: &mut Rng, size: &Size, file: &mut IntervalFile) {
-    if size.long && rng.one_in(3) {
-        file.length = rng.pick(&[49_152, 49_153]);
-    } else if rng.one_in(2) {
-        file.length = rng.pick(&[0, 4, 39, 40]);
-    } else {
-        file.head[0] = rng.pick(&[0, 2, 257, 0x0100_0001, u32::MAX]);
     }
 }
 

@@ -3,6 +3,7 @@ pub mod Figures
 pub mod Promises
 pub mod Limits
 pub mod Shares
+pub mod KindLaws
 pub mod RuleLaws
 pub mod CurveNumbers
 pub mod CurveLaws

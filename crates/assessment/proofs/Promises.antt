@@ -11,9 +11,10 @@ use lib.ListN.{length}
 use lib.IntN.{ℤ, pos, negsuc, natAbs, _+ℤ_, subℕ}
 use lib.Dec.{ltb, eqb}
 use Rattle.words.proofs.Lists.{sum-most}
-use Rattle.reading.specs.Interval.{mostKilowatts, mostImports, mostRows, Header, Row, Kind, generation, demand, efficiency, responsive, energyOnly, noKind, kindOf}
+use Rattle.reading.specs.Interval.{mostKilowatts, mostImports, mostRows, Header, Row, Kind, kindOf}
 use Rattle.reading.proofs.Bounds.{HeaderIn, RowIn}
 use Rattle.assessment.specs.Assessment.{orZero, actual, considered, ifConsidered, Ratio, portion, expectedAs, expected, bonusActualAs, bonus, numeratorShareAs, numeratorShare, importShare, numerator, denominatorShareAs, denominator, wholeRatio, printedRatio, outageAs, outage, economicRule, economicAs, economic, shortfall, RowFigures, rowFigures}
+use Rattle.assessment.proofs.KindLaws.{each-kind}
 
 -- a word that is given only if its row is considered is no larger
 pub if-le : (r : Row) (x : ℕ) → ifConsidered r x ≤ x
@@ -42,21 +43,11 @@ printed-le q = portion-le q wholeRatio
 
 expected-le : (k : Kind) (q : Ratio) (r : Row) → expectedAs k q r ≤ r .committed
 unfolding expectedAs
-expected-le generation q r = portion-le q (r .committed)
-expected-le demand q r = omega arith
-expected-le efficiency q r = omega arith
-expected-le responsive q r = omega arith
-expected-le energyOnly q r = omega arith
-expected-le noKind q r = omega arith
+expected-le k q r = each-kind (λ k. expectedAs k q r ≤ r .committed) (portion-le q (r .committed)) (omega arith) (omega arith) (omega arith) (omega arith) (omega arith) k
 
 bonus-actual-le : (k : Kind) (r : Row) → bonusActualAs k r ≤ actual r
 unfolding bonusActualAs
-bonus-actual-le generation r = omega arith
-bonus-actual-le demand r = omega arith
-bonus-actual-le efficiency r = omega arith
-bonus-actual-le responsive r = omega arith
-bonus-actual-le energyOnly r = omega arith
-bonus-actual-le noKind r = omega arith
+bonus-actual-le k r = each-kind (λ k. bonusActualAs k r ≤ actual r) (omega arith) (omega arith) (omega arith) (omega arith) (omega arith) (omega arith) k
 
 bonus-le : (r : Row) (e : ℕ) → bonus r e ≤ actual r - e
 unfolding bonus
@@ -68,21 +59,11 @@ shortfall-le r e = omega arith
 
 outage-le : (k : Kind) (r : Row) → outageAs k r ≤ r .planned
 unfolding outageAs
-outage-le generation r = omega arith
-outage-le demand r = omega arith
-outage-le efficiency r = omega arith
-outage-le responsive r = omega arith
-outage-le energyOnly r = omega arith
-outage-le noKind r = omega arith
+outage-le k r = each-kind (λ k. outageAs k r ≤ r .planned) (omega arith) (omega arith) (omega arith) (omega arith) (omega arith) (omega arith) k
 
 economic-le : (k : Kind) (r : Row) (e : ℕ) → economicAs k r e ≤ e
 unfolding economicAs economicRule
-economic-le generation r e = omega arith
-economic-le demand r e = omega arith
-economic-le efficiency r e = omega arith
-economic-le responsive r e = omega arith
-economic-le energyOnly r e = omega arith
-economic-le noKind r e = omega arith
+economic-le k r e = each-kind (λ k. economicAs k r e ≤ e) (omega arith) (omega arith) (omega arith) (omega arith) (omega arith) (omega arith) k
 
 orZero-subℕ : (m n : ℕ) → orZero (subℕ m n) ≤ m
 unfolding orZero
@@ -143,12 +124,7 @@ figures-in q r i =
 
 share-le : (k : Kind) (r : Row) → numeratorShareAs k r ≤ actual r
 unfolding numeratorShareAs
-share-le generation r = omega arith
-share-le demand r = omega (arith, bonus-le r (r .committed))
-share-le efficiency r = omega arith
-share-le responsive r = omega (arith, bonus-le r (r .committed))
-share-le energyOnly r = omega arith
-share-le noKind r = omega arith
+share-le k r = each-kind (λ k. numeratorShareAs k r ≤ actual r) (omega arith) (omega (arith, bonus-le r (r .committed))) (omega arith) (omega (arith, bonus-le r (r .committed))) (omega arith) (omega arith) k
 
 imports-le : (h : Header) → importShare h ≤ natAbs (h .imports)
 unfolding importShare
@@ -170,12 +146,7 @@ numerator-le h rs i few rows =
 
 denominator-share-le : (k : Kind) (r : Row) → denominatorShareAs k r ≤ r .committed
 unfolding denominatorShareAs
-denominator-share-le generation r = omega arith
-denominator-share-le demand r = omega arith
-denominator-share-le efficiency r = omega arith
-denominator-share-le responsive r = omega arith
-denominator-share-le energyOnly r = omega arith
-denominator-share-le noKind r = omega arith
+denominator-share-le k r = each-kind (λ k. denominatorShareAs k r ≤ r .committed) (omega arith) (omega arith) (omega arith) (omega arith) (omega arith) (omega arith) k
 
 pub denominator-le : (rs : List Row) → length rs ≤ mostRows → ((r : Row) → List·Memᴰ r rs → RowIn r) → denominator rs ≤ mostRows * mostKilowatts
 unfolding denominator

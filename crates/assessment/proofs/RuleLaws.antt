@@ -1,7 +1,7 @@
 -- What the tests and matches of the code say of the rules.
-use Prim.Native.Nat.{ℕ, zero, suc, _-_, _*_, _/_, _≤_, _<_, min}
+use Prim.Native.Nat.{ℕ, _-_, _*_, _/_, _≤_, _<_, min}
 use mathlib.Core.Path.{_≡_, refl}
-use mathlib.Core.Logic.{_⊎_, inl, inr, ⊎-elim}
+use mathlib.Core.Logic.{_⊎_, inl, inr}
 use mathlib.Core.Bool.{true, false, cond, true≢false}
 use native.Mathlib.Nat.{mul-le-mul}
 use native.Mathlib.Decide.{decLe}
@@ -10,7 +10,7 @@ use lib.IntN.{ℤ, pos, negsuc, natAbs}
 use lib.Dec.{T}
 use lib.Signed.{ltZ, nonNeg, mag}
 use borrow.Author.Tests.{eq-eqb, ne-eqb, ltb-true}
-use Rattle.reading.specs.Interval.{Header, Row, Kind, generation, demand, efficiency, responsive, energyOnly, noKind, kindOf}
+use Rattle.reading.specs.Interval.{Header, Row, kindOf}
 use Rattle.assessment.specs.Assessment.{
   orZero,
   actual,
@@ -35,6 +35,7 @@ use Rattle.assessment.specs.Assessment.{
   economic,
   share,
 }
+use Rattle.assessment.proofs.KindLaws.{kind-none, kind-reducing, kind-high, kind-supply, kind-other}
 
 -- a number below 0 counts as 0
 pub negative : (z : ℤ) → ltZ z (pos 0) ≡ true → orZero z ≡ 0
@@ -66,29 +67,6 @@ pub some-denominator : (n d whole : ℕ) → (d ≡ 0 → ⊥) → portion (reco
 unfolding portion
 some-denominator n d whole e = rw (ne-eqb d 0 e)
 
--- what a kind word above 4 says
-pub kind-none : (k : ℕ) → 4 < k → kindOf k ≡ noKind
-unfolding kindOf
-kind-none k h =
-    rw (ne-eqb k 0 (λ e. omega arith), ne-eqb k 1 (λ e. omega arith), ne-eqb k 2 (λ e. omega arith), ne-eqb k 3 (λ e. omega arith), ne-eqb k 4 (λ e. omega arith))
-
--- what holds of kinds 1, 2 and 3 holds of a kind word below 4 that is not 0
-pub kind-reducing : (P : Kind → Type 0) → P demand → P efficiency → P responsive → (k : ℕ) → (k ≡ 0 → ⊥) → k < 4 → P (kindOf k)
-unfolding kindOf
-kind-reducing P d e r zero some h = absurd (some refl)
-kind-reducing P d e r (suc zero) some h = d
-kind-reducing P d e r (suc (suc zero)) some h = e
-kind-reducing P d e r (suc (suc (suc zero))) some h = r
-kind-reducing P d e r (suc (suc (suc (suc k)))) some h = absurd (omega arith)
-
--- and what holds of kind 4 and of no kind, of one from 4 on
-pub kind-high : (P : Kind → Type 0) → P energyOnly → P noKind → (k : ℕ) → 4 ≤ k → P (kindOf k)
-kind-high P o n k h = by (decLe k 4)
-  where
-    by : Dec (k ≤ 4) → P (kindOf k)
-    by (yes q) = let four : k ≡ 4 = omega arith in rw four (unfold kindOf in o)
-    by (no q) = rw (kind-none k (omega arith)) n
-
 -- Expected, by the kind word
 module _ (q : Ratio) (r : Row) where
   pub expected-generation : r .kind ≡ 0 → expected q r ≡ portion q (r .committed)
@@ -102,19 +80,6 @@ module _ (q : Ratio) (r : Row) where
   pub expected-high : 4 ≤ r .kind → expected q r ≡ 0
   unfolding expected expectedAs
   expected-high h = kind-high (λ k. expectedAs k q r ≡ 0) refl refl (r .kind) h
-
--- kinds 0 and 4
-pub kind-supply : (P : Kind → Type 0) → P generation → P energyOnly → (k : ℕ) → (k ≡ 0) ⊎ (k ≡ 4) → P (kindOf k)
-unfolding kindOf
-kind-supply P g o k = ⊎-elim (λ e. rw e g) (λ e. rw e o)
-
--- any other
-pub kind-other : (P : Kind → Type 0) → P demand → P efficiency → P responsive → P noKind → (k : ℕ) → ((k ≡ 0) ⊎ (k ≡ 4) → ⊥) → P (kindOf k)
-kind-other P d e r n k other = by (decLe k 3)
-  where
-    by : Dec (k ≤ 3) → P (kindOf k)
-    by (yes h) = kind-reducing P d e r k (λ q. other (inl q)) (omega arith)
-    by (no h) = let not-four : k ≡ 4 → ⊥ = λ q. other (inr q) in rw (kind-none k (omega arith)) n
 
 -- Outage, by the kind word
 module _ (r : Row) where

@@ -1,8 +1,8 @@
 -- One pass over the rows of a file: what is left of its sums, and what each turn needs of a row.
 use Prim.Native.Nat.{ℕ, _+_, _-_, _*_, _≤_, _<_}
 use mathlib.Core.Path.{_≡_, refl, sym, ap, _∙_}
-use mathlib.Core.List.{List, [], _∷_}
-use mathlib.Core.Bool.{Bool, true, false, _||_, _&&_}
+use mathlib.Core.List.{List, []}
+use mathlib.Core.Bool.{Bool, false, _&&_}
 use native.Mathlib.Omega.{arith}
 use lib.ListN.{length, take, drop, length-drop}
 use lib.Dec.{ltb}
@@ -11,35 +11,24 @@ use borrow.Rule.Slice.PartAt.{part-to-end}
 use Rattle.words.specs.Lists.{sum, any}
 use Rattle.words.specs.Words.{word32}
 use Rattle.words.proofs.Tests.{facts, not-first, not-second}
-use Rattle.reading.specs.Interval.{rowBytes, Row, Kind, generation, demand, efficiency, responsive, energyOnly, noKind, kindOf, headerOf, rowAt, rowOf, rowsOf, pointsOutside}
+use Rattle.reading.specs.Interval.{rowBytes, Row, kindOf, headerOf, rowAt, rowOf, rowsOf, pointsOutside}
 use Rattle.assessment.specs.Assessment.{denominatorShareAs}
-use Rattle.reading.proofs.Walk.{rowPart, rowsLeft, rows-start, rows-turn, rows-end}
+use Rattle.assessment.proofs.KindLaws.{each-kind}
+use Rattle.reading.proofs.Walk.{part-at, rowPart, rowsLeft, rows-start, rows-turn, rows-end}
 
 -- what a row adds to the denominator
 abbrev pub lowerShare : Row → ℕ
 lowerShare r = denominatorShareAs (kindOf (r .kind)) r
 
 -- it reads the committed kW alone, so not the points
-committed-only : (k : Kind) (r s : Row) → r .committed ≡ s .committed → denominatorShareAs k r ≡ denominatorShareAs k s
-unfolding denominatorShareAs
-committed-only generation r s e = e
-committed-only demand r s e = refl
-committed-only efficiency r s e = refl
-committed-only responsive r s e = refl
-committed-only energyOnly r s e = refl
-committed-only noKind r s e = refl
-
 lower-without-points : (b p q : List ℕ) → lowerShare (rowAt b p) ≡ lowerShare (rowAt b q)
-unfolding rowAt
-lower-without-points b p q = committed-only (kindOf (word32 b 1)) _ _ refl
+unfolding denominatorShareAs rowAt
+lower-without-points b p q = each-kind (λ k. denominatorShareAs k (rowAt b p) ≡ denominatorShareAs k (rowAt b q)) refl refl refl refl refl refl (kindOf (word32 b 1))
 
 module _ (f : List ℕ) where
   -- a part of the file to its end
   abbrev pub partFrom : ℕ → List ℕ
   partFrom at = take (length f - at) (drop at f)
-
-  part-at : (a at : ℕ) → a ≡ at → partFrom a ≡ drop at f
-  part-at a at e = part-to-end f a ∙ ap (λ k. drop k f) e
 
   pub part-length : (at : ℕ) → length (partFrom at) ≡ length f - at
   part-length at = ap length (part-to-end f at) ∙ length-drop at f
@@ -81,13 +70,13 @@ module _ (f : List ℕ) where
       → headerOf f .pointsOffset + 8 * headerOf f .pointCount ≤ length f → 0 < word32 (partFrom at) 13
       → headerOf f .pointsOffset + 8 * (word32 (partFrom at) 12 + word32 (partFrom at) 13) ≤ length f
   curve-within i at place e table =
-      rw (part-at at (headerOf f .rowsOffset + rowBytes * i) place) (λ some. omega (arith, points-within i e some, table))
+      rw (part-at f at (headerOf f .rowsOffset + rowBytes * i) place) (λ some. omega (arith, points-within i e some, table))
 
   -- a figure of the row in two parts of the file is that of the row of the file
   pub row-in-parts : (g : Row → ℕ) (i at curve share : ℕ) → at ≡ headerOf f .rowsOffset + rowBytes * i
       → rowAt (partFrom at) (drop curve f) ≡ rowOf f (partFrom at) → share ≡ g (rowAt (partFrom at) (partFrom curve)) → share ≡ g (rowOf f (rowPart f i))
   row-in-parts g i at curve share place same e =
-      e ∙ ap (λ p. g (rowAt (partFrom at) p)) (part-to-end f curve) ∙ ap g same ∙ ap (λ b. g (rowOf f b)) (part-at at (headerOf f .rowsOffset + rowBytes * i) place)
+      e ∙ ap (λ p. g (rowAt (partFrom at) p)) (part-to-end f curve) ∙ ap g same ∙ ap (λ b. g (rowOf f b)) (part-at f at (headerOf f .rowsOffset + rowBytes * i) place)
 
   pub lower-in-parts : (i at curve share : ℕ) → at ≡ headerOf f .rowsOffset + rowBytes * i
       → rowAt (partFrom at) (drop curve f) ≡ rowOf f (partFrom at) → share ≡ lowerShare (rowAt (partFrom at) []) → share ≡ lowerShare (rowOf f (rowPart f i))

@@ -2,7 +2,7 @@
 use Prim.Native.Nat.{ℕ, _+_, _*_, _≤_}
 use mathlib.Core.Path.{_≡_, refl, _∙_, sym}
 use mathlib.Core.List.{List, List·Memᴰ}
-use mathlib.Core.Bool.{Bool, true, false, cond, not}
+use mathlib.Core.Bool.{Bool, true, false, cond}
 use native.Mathlib.Omega.{arith}
 use lib.ListN.{length, drop}
 use lib.Dec.{eqb}
@@ -14,10 +14,10 @@ use Rattle.words.proofs.Lists.{none-passes}
 use Rattle.words.proofs.Words.{length-entries}
 use Rattle.words.proofs.Grounds.{none-applies}
 use Rattle.reading.specs.Block.{blockHeaderBytes, mostIds, idBytes, Terms, blockOf, notABlock, termsOutside, idsMisplaced, idsOutOfOrder}
-use Rattle.reading.specs.Interval.{mostKilowatts}
+use Rattle.reading.specs.Interval.{intervalsPerDay, mostKilowatts}
 use Rattle.reading.proofs.Bounds.{block-has-header, ids-few, ids-placed}
 use Rattle.assessment.specs.Assessment.{Account, limit}
-use Rattle.ledger.specs.Ledger.{ledgerHeaderBytes, accountBytes, mostCredited, Ledger, ledgerBytes, accountAt, accountCount, ledgerOf, idsIn, accountOutside, doesNotClose, notALedger}
+use Rattle.ledger.specs.Ledger.{ledgerHeaderBytes, accountBytes, mostCents, mostCredited, Ledger, ledgerBytes, accountAt, accountCount, ledgerOf, idsIn, accountOutside, doesNotClose, notALedger}
 use Rattle.ledger.specs.Opening.{OpeningAnswer, ledgerTooShort, openingGrounds, opening}
 
 -- an answer of 0 is the answer of the list of grounds
@@ -74,6 +74,8 @@ pub record LedgerIn (l : Ledger) : Type 0 where
   pub ids : idsOutOfOrder (idsIn l) ≡ false
   pub some : 1 ≤ length (l .accounts)
   pub few : length (l .accounts) ≤ mostIds
+  pub earliest : l .earliest ≤ intervalsPerDay * l .terms .days
+  pub carried : l .carried ≤ mostCents
   pub accounts : (a : Account) → List·Memᴰ a (l .accounts) → AccountIn (l .terms) a
   pub closes : sum (λ a. a .charged) (l .accounts) ≡ sum (λ a. a .credited) (l .accounts) + l .carried
 
@@ -98,6 +100,8 @@ ledger-in b e =
       ids = search facts depth 20;
       some = omega (arith, n, number .0);
       few = omega (arith, n, number .1);
+      earliest = search facts depth 20;
+      carried = search facts depth 20;
       accounts = λ a m. account-in (ledgerOf b .terms) a (none-passes (accountOutside (ledgerOf b .terms)) m all);
       closes = closes-of (ledgerOf b) close;
     }

@@ -12,8 +12,8 @@ use borrow.Author.Tests.{eq-eqb, ne-eqb}
 use Rattle.words.specs.Lists.{any}
 use Rattle.words.proofs.Tests.{facts}
 use Rattle.words.proofs.Grounds.{none-applies}
-use Rattle.reading.specs.Interval.{headerBytes, rowBytes, mostRows, headerOf, rowOf, rowsOf, notAFile, tablesMisplaced}
-use Rattle.reading.proofs.Bounds.{file-has-header, tables-in}
+use Rattle.reading.specs.Interval.{headerBytes, headerOf, rowOf, rowsOf, notAFile, tablesMisplaced}
+use Rattle.reading.proofs.Bounds.{file-has-header, TablesIn, tables-in}
 use Rattle.reading.proofs.Walk.{rowPart, rowsLeft, rows-start, rows-turn, rows-end}
 use Rattle.ledger.specs.Ledger.{ledgerBytes}
 use Rattle.ledger.specs.Opening.{opening}
@@ -87,8 +87,7 @@ module _ (f b : List ℕ) (interval : ℕ) where
 -- what is known of a file that settling accepts
 pub record Settled (f r : List ℕ) : Type 0 where
   pub header : headerBytes ≤ length f
-  pub rows-few : headerOf f .rowCount ≤ mostRows
-  pub rows-lie : headerOf f .rowsOffset + rowBytes * headerOf f .rowCount ≤ length f
+  pub tables : TablesIn f
   pub room : resultHeaderBytes + resultRowBytes * headerOf f .rowCount ≤ length r
 
 pub settled : (l f r : List ℕ) → settling l f r .ground ≡ 0 → Settled f r
@@ -97,8 +96,7 @@ settled l f r e =
     let none = none-applies (settlingGrounds l f r) refl (settling-none l f r e) in
     let g7 : notAFile f ≡ false = search facts depth 14 in
     let g11 : tablesMisplaced f ≡ false = search facts depth 14 in
-    let tables = tables-in f g11 in
-    record { header = file-has-header f g7; rows-few = tables .rows; rows-lie = tables .rows-lie; room = search facts depth 14 }
+    record { header = file-has-header f g7; tables = tables-in f g11; room = search facts depth 14 }
 
 -- a cleared result, and a cleared ledger
 pub result-cleared : (r : List ℕ) → length r ≡ 64 + 64 * 512 → replicate (length r) 0 ≡ resultBuffer

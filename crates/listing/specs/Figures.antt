@@ -3,7 +3,7 @@ use Prim.Native.Nat.{ℕ}
 use mathlib.Core.Path.{_≡_}
 use mathlib.Core.List.{List, [], _∷_, _++_}
 use lib.ListN.{length, take, drop, replicate}
-use Rattle.words.specs.Words.{bytesOf, bytesOfWords}
+use Rattle.words.specs.Words.{bytesOf}
 use Rattle.ledger.specs.Figures.{listingBlock}
 use Rattle.settling.specs.Listing.{listingFile}
 use Rattle.listing.specs.Lines.{text, decimal}

@@ -2,7 +2,7 @@
 use Prim.Native.Nat.{ℕ, _+_, _*_, _<_, _≤_}
 use mathlib.Core.Path.{_≡_}
 use mathlib.Core.Logic.{⊎-elim}
-use mathlib.Core.List.{List}
+use mathlib.Core.List.{List, List·Memᴰ}
 use mathlib.Core.Bool.{true, false, _||_}
 use native.Mathlib.Omega.{arith}
 use lib.ListN.{length, drop}
@@ -13,7 +13,7 @@ use Rattle.words.specs.Lists.{any, risesAbove, rises}
 use Rattle.words.specs.Words.{word32}
 use Rattle.words.specs.Grounds.{outside, beyond, liesFrom}
 use Rattle.words.proofs.Tests.{facts, either, not-outside}
-use Rattle.words.proofs.Lists.{rises-from-zero}
+use Rattle.words.proofs.Lists.{none-passes, rises-from-zero}
 use Rattle.words.proofs.Words.{length-entries}
 use Rattle.reading.specs.Block.{blockHeaderBytes, mostBlockBytes, mostNetCone, leapYear, mostIds, idBytes, Terms, blockOf, notABlock, termsOutside, idsMisplaced, idsOutOfOrder}
 use Rattle.reading.specs.Interval.{headerBytes, rowBytes, pointBytes, mostFileBytes, intervalsPerDay, mostImports, mostRows, mostPoints, mostKilowatts, Header, Row, headerOf, rowOf, rowsOf, notAFile, headerOutside, tablesMisplaced, rowOutside}
@@ -89,6 +89,10 @@ row-in r e = record {
   metered = search facts depth 20;
   adjustment = search facts depth 20;
 }
+
+-- rows of which ground 13 refuses none
+pub rows-in : (rs : List Row) → any rowOutside rs ≡ false → (r : Row) → List·Memᴰ r rs → RowIn r
+rows-in rs e r m = row-in r (none-passes rowOutside m e)
 
 -- a block that ground 1 does not refuse has its five words
 pub block-has-header : (b : List ℕ) → notABlock b ≡ false → blockHeaderBytes ≤ length b

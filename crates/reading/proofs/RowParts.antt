@@ -1,10 +1,10 @@
 -- A row's points as a stretch of its file.
 use Prim.Native.Nat.{ℕ, _+_, _*_}
-use mathlib.Core.Path.{_≡_, refl, sym, ap, _∙_}
-use mathlib.Core.List.{List, []}
+use mathlib.Core.Path.{_≡_, sym, ap, _∙_}
+use mathlib.Core.List.{List}
 use lib.ListN.{drop}
 use Rattle.words.specs.Words.{word32, signed, entries}
-use Rattle.reading.specs.Interval.{pointBytes, Row, Point, headerOf, pointOf, rowAt, pointsFrom, rowOf}
+use Rattle.reading.specs.Interval.{pointBytes, headerOf, pointOf, rowAt, pointsFrom, rowOf}
 
 -- a row without points has the same curve wherever they are said to begin
 pub no-points : (b p q : List ℕ) → word32 b 13 ≡ 0 → rowAt b p ≡ rowAt b q

@@ -69,7 +69,7 @@ module _ (n : ℕ) (c : List ℕ) where
       ap₂ (λ ps t. any pointOutside ps || t) (table-end pointBytes pointOf n c j h) (falls-short (pointsLeft (j - 1)) most)
 
 -- a part of a file that goes to its end
-part-at : (f : List ℕ) (a at : ℕ) → a ≡ at → take (length f - a) (drop a f) ≡ drop at f
+pub part-at : (f : List ℕ) (a at : ℕ) → a ≡ at → take (length f - a) (drop a f) ≡ drop at f
 part-at f a at e = part-to-end f a ∙ ap (λ k. drop k f) e
 
 -- the rows of a file f

@@ -6,7 +6,7 @@ use lib.ListN.{length, replicate}
 use lib.IntN.{ℤ, pos, negsuc}
 use Rattle.words.specs.Words.{bytesOfWords}
 use Rattle.words.specs.Figures.{Figure, _gives_, AllAsStated, test}
-use Rattle.reading.specs.Block.{Terms, Block, blockOf, notABlock, termsOutside, idsMisplaced, idsOutOfOrder}
+use Rattle.reading.specs.Block.{blockOf, notABlock, termsOutside, idsMisplaced, idsOutOfOrder}
 use Rattle.reading.specs.Interval.{
   Header,
   Point,

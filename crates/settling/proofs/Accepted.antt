@@ -12,7 +12,7 @@ use Rattle.words.proofs.Tests.{facts}
 use Rattle.words.proofs.Lists.{none-passes}
 use Rattle.words.proofs.Grounds.{none-applies}
 use Rattle.reading.specs.Interval.{mostRows, Row, headerOf, rowsOf, headerOutside, tablesMisplaced, rowOutside}
-use Rattle.reading.proofs.Bounds.{HeaderIn, header-in, rows-few, length-rows, RowIn, row-in}
+use Rattle.reading.proofs.Bounds.{HeaderIn, header-in, rows-few, length-rows, RowIn, rows-in}
 use Rattle.assessment.specs.Assessment.{pool}
 use Rattle.ledger.proofs.Sound.{ground-zero, LedgerIn, ledger-in}
 use Rattle.ledger.specs.Ledger.{mostCents, Ledger, ledgerOf, idsIn, notALedger}
@@ -70,7 +70,7 @@ accepted ledger file result e =
       rows-few = omega (arith, n, rows-few file g11);
       ids-rise = rows-rise (ledgerOf ledger) (rowsOf file) g12;
       ids-known = rows-known (ledgerOf ledger) (rowsOf file) g12;
-      rows = λ r m. row-in r (none-passes rowOutside m g13);
+      rows = rows-in (rowsOf file) g13;
       room = omega (arith, n, g15);
       pool = search facts depth 14;
     }

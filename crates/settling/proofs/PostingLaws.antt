@@ -2,7 +2,7 @@
 use Prim.Native.Nat.{ℕ, zero, suc, _+_, _-_, _*_, _≤_, _<_, _^_}
 use mathlib.Core.Path.{_≡_, refl, sym, ap, ap₂, _∙_}
 use mathlib.Core.List.{List, [], _∷_, _++_, map, append-nil}
-use mathlib.Core.Bool.{Bool, true, false, not, _&&_}
+use mathlib.Core.Bool.{Bool, true, false, _&&_}
 use native.Mathlib.Omega.{arith}
 use borrow.Author.Tests.{lt-ltb, le-ltb, ltb-true, ltb-false}
 use borrow.Rule.Slice.PartAt.{part-to-end}
@@ -25,7 +25,7 @@ use Rattle.ledger.specs.Ledger.{ledgerHeaderBytes, accountBytes, mostCents, mos
 use Rattle.settling.specs.Settling.{rowWords, assessedFile, posted, postedAll}
 use Rattle.settling.specs.Scratch.{Passed}
 use Rattle.ledger.proofs.Accounts.{accountPart, accountsLeft, accounts-start, accounts-turn, accounts-end}
-use Rattle.settling.proofs.Beside.{unmatched, walked}
+use Rattle.settling.proofs.Beside.{unmatched}
 use Rattle.settling.proofs.Meeting.{accountIds, rowIds, chargedIds, postedBeside, posted-met, posted-passed, posted-rest, posted-own, accounts-rise, all-meet}
 use Rattle.ledger.proofs.Sound.{account-in}
 use Rattle.settling.proofs.SettledLaws.{length-row-words}

@@ -10,12 +10,12 @@ use lib.Dec.{eqb}
 use lib.Seq.{drop-drop, drop-at, length-take-le, getD-append-add}
 use Rattle.words.specs.Lists.{sum, any}
 use Rattle.words.specs.Words.{bytesOfWords, written, writtenAt}
-use Rattle.words.proofs.Lists.{sum-most, member-le, none-passes}
+use Rattle.words.proofs.Lists.{sum-most, member-le}
 use Rattle.words.proofs.Access.{words-append}
 use Rattle.words.proofs.Tests.{not-first, not-second}
 use Rattle.reading.specs.Block.{Terms}
-use Rattle.reading.specs.Interval.{mostKilowatts, mostRows, Row, headerOf, rowsOf, rowOutside}
-use Rattle.reading.proofs.Bounds.{terms-in, header-in, RowIn, row-in, length-rows}
+use Rattle.reading.specs.Interval.{mostKilowatts, mostRows, Row, headerOf, rowsOf}
+use Rattle.reading.proofs.Bounds.{terms-in, header-in, RowIn, rows-in, length-rows}
 use Rattle.assessment.specs.Assessment.{ratioOf, numerator, denominator, portion, printedRatio, Account, accountOf, raised, charge, rowFigures, ChargedRow, chargedRow, Assessed, assessed, charges, totalBonus, pool, share, credit, credits, carriedOn}
 use Rattle.assessment.proofs.Promises.{if-le, FiguresIn, figures-in, numerator-le}
 use Rattle.assessment.proofs.Limits.{limit-le, charge-le, mostLimit}
@@ -132,7 +132,7 @@ module _ (ledger file : List ℕ) (p : Passed ledger file) where
   count-is = ap length rows-are ∙ length-map (rowsOf file) own ∙ length-rows file
 
   row-is : (r : Row) → List·Memᴰ r (rowsOf file) → RowIn r
-  row-is r m = row-in r (none-passes rowOutside m (p .rows))
+  row-is = rows-in (rowsOf file) (p .rows)
 
   pub numerator-fits : numerator (headerOf file) (rowsOf file) ≤ 2 ^ 40
   numerator-fits =

@@ -1,5 +1,5 @@
 -- What the answers of the tests of a file say of it.
-use Prim.Native.Nat.{ℕ}
+
 use mathlib.Core.Path.{_≡_, refl}
 use mathlib.Core.List.{[], _∷_}
 use mathlib.Core.Bool.{Bool, true, false}

@@ -3,7 +3,7 @@ use Prim.Native.Nat.{ℕ}
 use mathlib.Core.Path.{_≡_}
 use mathlib.Core.List.{List, [], _∷_, map}
 use mathlib.Core.Bool.{Bool, true, false, cond}
-use lib.IntN.{ℤ, pos, negsuc}
+use lib.IntN.{pos, negsuc}
 use Rattle.words.specs.Lists.{sum, any, rises}
 use Rattle.words.specs.Words.{bytesOf, word32, word64, signed, entries, written}
 use Rattle.words.specs.Grounds.{answered, outside, beyond, liesFrom, overlap}

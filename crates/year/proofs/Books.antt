@@ -21,8 +21,7 @@ use Rattle.assessment.proofs.Limits.{mostLimit, limit-le}
 use Rattle.ledger.specs.Ledger.{mostCents, mostCredited, Ledger, idsIn}
 use Rattle.settling.specs.Settling.{postedAll}
 use Rattle.year.specs.Year.{GivenRow, sumOfPlant, largestOfPlant, accountByRows}
-use Rattle.ledger.proofs.Sound.{AccountIn}
-use Rattle.year.proofs.LedgerBack.{InOrder}
+use Rattle.ledger.proofs.Sound.{AccountIn, LedgerIn}
 use Rattle.year.proofs.Given.{givenOf}
 use Rattle.year.proofs.PostedSums.{posted-all}
 use Rattle.year.proofs.Fits.{largest-le, part-le}
@@ -130,7 +129,7 @@ module _ (block : List ℕ) (good : GoodBlock block) (l : Ledger) (gs : List Giv
     credited = omega (arith, part-le i (λ g. g .credit) gs, k .closes, charges-in);
   }
 
-  pub in-order : l .earliest ≤ intervalsPerDay * l .terms .days → l .carried ≤ mostCents → InOrder l
+  pub in-order : l .earliest ≤ intervalsPerDay * l .terms .days → l .carried ≤ mostCents → LedgerIn l
   in-order early small =
       let n : length (l .accounts) ≡ length is = ap length (k .accounts) ∙ length-map is (accountByRows gs) in
       record {

@@ -13,11 +13,11 @@ use Rattle.words.specs.Words.{number, bytesOf, numberAt, word64, entries, bytes
 use Rattle.words.specs.Grounds.{outside}
 use Rattle.words.proofs.Lists.{none-pass}
 use Rattle.words.proofs.Words.{first-word, entries-back, length-written}
-use Rattle.reading.specs.Block.{mostIds, Terms, termsOutside, idsOutOfOrder}
+use Rattle.reading.specs.Block.{mostIds, Terms}
 use Rattle.reading.specs.Interval.{intervalsPerDay, mostKilowatts}
 use Rattle.assessment.specs.Assessment.{Account, limit}
-use Rattle.ledger.specs.Ledger.{ledgerHeaderBytes, accountBytes, mostCents, mostCredited, Ledger, ledgerBytes, accountAt, accountCount, ledgerOf, accountWords, ledgerWords, idsIn, notLaidOut, accountOutside, doesNotClose, notALedger}
-use Rattle.ledger.proofs.Sound.{AccountIn}
+use Rattle.ledger.specs.Ledger.{ledgerHeaderBytes, accountBytes, mostCents, mostCredited, Ledger, ledgerBytes, accountAt, accountCount, ledgerOf, accountWords, ledgerWords, notLaidOut, accountOutside, doesNotClose, notALedger}
+use Rattle.ledger.proofs.Sound.{AccountIn, LedgerIn}
 
 -- words that fit 64 bits
 abbrev pub Fits : List ℕ → Type 0
@@ -126,17 +126,6 @@ laid l b h =
       last = first-word 8 0 ws rest (omega arith);
     }
 
--- what makes a ledger one in order
-pub record InOrder (l : Ledger) : Type 0 where
-  pub terms : termsOutside (l .terms) ≡ false
-  pub ids : idsOutOfOrder (idsIn l) ≡ false
-  pub some : 1 ≤ length (l .accounts)
-  pub few : length (l .accounts) ≤ mostIds
-  pub earliest : l .earliest ≤ intervalsPerDay * l .terms .days
-  pub carried : l .carried ≤ mostCents
-  pub accounts : (a : Account) → List·Memᴰ a (l .accounts) → AccountIn (l .terms) a
-  pub closes : sum (λ a. a .charged) (l .accounts) ≡ sum (λ a. a .credited) (l .accounts) + l .carried
-
 account-good : (t : Terms) (a : Account) → AccountIn t a → accountOutside t a ≡ false
 unfolding accountOutside
 account-good t a s =
@@ -150,12 +139,12 @@ in-range : (n : ℕ) → 1 ≤ n → n ≤ mostIds → outside 1 mostIds n ≡ f
 unfolding outside
 in-range n some few = rw (le-ltb n 1 some, le-ltb mostIds n few)
 
-closing : (l : Ledger) → InOrder l → doesNotClose l ≡ false
+closing : (l : Ledger) → LedgerIn l → doesNotClose l ≡ false
 unfolding doesNotClose
 closing l s = rw (eq-eqb (sum (λ a. a .charged) (l .accounts)) (sum (λ a. a .credited) (l .accounts) + l .carried) (s .closes))
 
 -- a buffer that holds a ledger in order, where there is room for it, passes ground 6
-holds : (l : Ledger) (b : List ℕ) → ledgerOf b ≡ l → Laid l b → ledgerBytes (length (l .accounts)) ≤ length b → InOrder l → notALedger b ≡ false
+holds : (l : Ledger) (b : List ℕ) → ledgerOf b ≡ l → Laid l b → ledgerBytes (length (l .accounts)) ≤ length b → LedgerIn l → notALedger b ≡ false
 unfolding notALedger ledgerBytes
 holds l b back p room s =
     let counted = p .count in
@@ -169,5 +158,5 @@ holds l b back p room s =
     let e7 = none-pass (accountOutside (l .terms)) (l .accounts) (λ a m. account-good (l .terms) a (s .accounts a m)) in
     rw (e1, e2, e3, e4, back, s .terms, s .ids, e5, e6, e7, closing l s)
 
-pub written-holds : (l : Ledger) (b : List ℕ) → LedgerFits l → ledgerBytes (length (l .accounts)) ≤ length b → InOrder l → notALedger (written (ledgerWords l) b) ≡ false
+pub written-holds : (l : Ledger) (b : List ℕ) → LedgerFits l → ledgerBytes (length (l .accounts)) ≤ length b → LedgerIn l → notALedger (written (ledgerWords l) b) ≡ false
 written-holds l b fit room s = holds l (written (ledgerWords l) b) (ledger-back l b fit) (laid l b (fit .count)) (rw (length-ledger l b room) room) s

@@ -3,6 +3,7 @@
 //! at the end and at the start of their pages.
 
 use crate::guard::{watch, Guarded, Lent, Side};
+use npa_tests::outcome::shown;
 use npa_tests::random::Rng;
 use std::array;
 use std::collections::BTreeMap;
@@ -204,16 +205,7 @@ fn arguments(count: u64) -> Result<(u64, u64), String> {
 
 /// A program that runs on a seed and a number of random calls, `count` unless one is given.
 pub fn program(count: u64, run: fn(u64, u64) -> Result<String, String>) -> ExitCode {
-    match arguments(count).and_then(|(seed, count)| run(seed, count)) {
-        Ok(text) => {
-            println!("{text}");
-            ExitCode::SUCCESS
-        }
-        Err(text) => {
-            eprintln!("{text}");
-            ExitCode::FAILURE
-        }
-    }
+    shown(arguments(count).and_then(|(seed, count)| run(seed, count)))
 }
 
 #[cfg(test)]

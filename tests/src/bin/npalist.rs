@@ -1,6 +1,7 @@
 //! `npalist BINARY [SEED [N]]` runs the program npalist on fixed streams and N random ones, and holds every listing
 //! to the reference's, byte for byte.
 
+use npa_tests::outcome::shown;
 use npa_tests::program::{Closed, Input, Output, Program, Unread};
 use npa_tests::random::Rng;
 use npa_tests::reference::{npalist, HEADING};
@@ -268,14 +269,5 @@ fn main() -> ExitCode {
         }
         _ => Err("usage: npalist BINARY [SEED [N]]".to_string()),
     };
-    match outcome {
-        Ok(text) => {
-            println!("{text}");
-            ExitCode::SUCCESS
-        }
-        Err(text) => {
-            eprintln!("{text}");
-            ExitCode::FAILURE
-        }
-    }
+    shown(outcome)
 }

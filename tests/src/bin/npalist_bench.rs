@@ -1,5 +1,6 @@
 //! `npalist_bench BINARY` times the program npalist and the reference's listing on the same stream.
 
+use npa_tests::outcome::shown;
 use npa_tests::program::Program;
 use npa_tests::reference::npalist;
 use npa_tests::streams::full_intervals;
@@ -13,13 +14,13 @@ const ROWS: u32 = 512;
 const ROUNDS: usize = 3;
 
 /// One of the two lines.
-fn print(name: &str, time: Duration) {
+fn timed(name: &str, time: Duration) -> String {
     let all = time.as_secs_f64();
     let rows = f64::from(FILES * ROWS) / all;
-    println!("{name}: {all:.3} s, {rows:.0} rows a second");
+    format!("{name}: {all:.3} s, {rows:.0} rows a second")
 }
 
-fn run(binary: &str) -> Result<(), String> {
+fn run(binary: &str) -> Result<String, String> {
     let program = Program::new(Path::new(binary)).map_err(|error| error.to_string())?;
     let stream = full_intervals(FILES);
     let file = program.file(&stream)?;
@@ -35,22 +36,20 @@ fn run(binary: &str) -> Result<(), String> {
         }
     }
     let bytes = stream.len() / 1_000_000;
-    println!("npalist: {FILES} intervals of {ROWS} rows, {bytes} MB, the best of {ROUNDS} rounds");
-    print("npalist, from file to file", ours);
-    print("separate Rust code, in memory", theirs);
     let ratio = ours.as_secs_f64() / theirs.as_secs_f64();
-    println!("npalist / separate Rust code: {ratio:.2}");
-    Ok(())
+    let lines = [
+        format!(
+            "npalist: {FILES} intervals of {ROWS} rows, {bytes} MB, the best of {ROUNDS} rounds"
+        ),
+        timed("npalist, from file to file", ours),
+        timed("separate Rust code, in memory", theirs),
+        format!("npalist / separate Rust code: {ratio:.2}"),
+    ];
+    Ok(lines.join("\n"))
 }
 
 fn main() -> ExitCode {
     let binary = env::args().nth(1);
     let outcome = binary.ok_or_else(|| "usage: npalist_bench BINARY".to_string());
-    match outcome.and_then(|binary| run(&binary)) {
-        Ok(()) => ExitCode::SUCCESS,
-        Err(what) => {
-            eprintln!("{what}");
-            ExitCode::FAILURE
-        }
-    }
+    shown(outcome.and_then(|binary| run(&binary)))
 }

@@ -1,6 +1,7 @@
 //! `theorems SEED N DIR` writes N small calls as theorems about the definitions
 //! into DIR: each says that a call gives what the reference gives.
 
+use npa_tests::outcome::shown;
 use npa_tests::small::{cases, Case};
 use std::fmt::Write as _;
 use std::path::Path;
@@ -73,7 +74,8 @@ fn module(cases: &[Case]) -> String {
     text
 }
 
-fn write_all(seed: u64, count: u64, dir: &Path) -> io::Result<()> {
+/// Writes the theorems, and says how many.
+fn write_all(seed: u64, count: u64, dir: &Path) -> io::Result<String> {
     let all = cases(seed, count);
     let mut root = String::new();
     for (index, part) in all.chunks(A_MODULE).enumerate() {
@@ -82,25 +84,20 @@ fn write_all(seed: u64, count: u64, dir: &Path) -> io::Result<()> {
     }
     fs::write(dir.join("Lib.antt"), root)?;
     let accepted = all.iter().filter(|case| case.ground() == 0).count();
-    println!("{count} calls, {accepted} accepted, seed {seed}");
-    Ok(())
+    Ok(format!("{count} calls, {accepted} accepted, seed {seed}"))
+}
+
+fn run(words: &[String]) -> Result<String, String> {
+    let [seed, count, dir] = words else {
+        return Err("usage: theorems SEED N DIR".to_string());
+    };
+    let (Ok(seed), Ok(count)) = (seed.parse(), count.parse()) else {
+        return Err("theorems: SEED and N are numbers".to_string());
+    };
+    write_all(seed, count, Path::new(dir)).map_err(|error| format!("theorems: {error}"))
 }
 
 fn main() -> ExitCode {
     let words: Vec<String> = std::env::args().skip(1).collect();
-    let [seed, count, dir] = &words[..] else {
-        eprintln!("usage: theorems SEED N DIR");
-        return ExitCode::FAILURE;
-    };
-    let (Ok(seed), Ok(count)) = (seed.parse(), count.parse()) else {
-        eprintln!("theorems: SEED and N are numbers");
-        return ExitCode::FAILURE;
-    };
-    match write_all(seed, count, Path::new(dir)) {
-        Ok(()) => ExitCode::SUCCESS,
-        Err(error) => {
-            eprintln!("theorems: {error}");
-            ExitCode::FAILURE
-        }
-    }
+    shown(run(&words))
 }

@@ -1,10 +1,13 @@
 -- `assessment::rules::numerator_share` meets its contract. One arm for kinds 0 and 4, one for kind 1, one for kind 3 with its test, one for the rest.
-use mathlib.Core.Path.{sym, _∙_}
-use mathlib.Core.Logic.{⊎-elim, inl, inr}
+use Prim.Native.Nat.{ℕ}
+use mathlib.Core.Path.{_≡_, sym, _∙_}
+use mathlib.Core.Logic.{_⊎_, ⊎-elim, inl, inr}
+use mathlib.Core.List.{List, []}
 use native.Mathlib.Omega.{arith}
 use borrow.Author.Needs.{needs}
+use Rattle.words.specs.Words.{word32}
 use Rattle.reading.specs.Interval.{rowAt}
-use Rattle.assessment.specs.Assessment.{actual}
+use Rattle.assessment.specs.Assessment.{actual, numeratorShare}
 use Rattle.assessment.proofs.RuleLaws.{numerator-supply, numerator-demand, numerator-considered, numerator-not-considered, numerator-other}
 use Rattle.assessment.proofs.rules.numerator_share.Statement.{statement}
 use Rattle.assessment.proofs.rules.numerator_share.Tie as tie
@@ -32,12 +35,13 @@ returns c =
     let counts = sym (asked .considered .ensures) ∙ c .before .if1 .taken in
     (c .reduction2 .ensures .0 ∙ sym (numerator-considered _ (sym kind ∙ asked .before .match .keys3) counts), c .reduction2 .ensures .1)
 
-returns-2 : tie.Need-returns-2
+-- kinds 0 and 4 add their actual as it is
+supplied : (kind share : ℕ) (row points : List ℕ) → kind ≡ word32 row 1 → (kind ≡ 0) ⊎ (kind ≡ 4) → share ≡ actual (rowAt row []) → share ≡ numeratorShare (rowAt row points)
 unfolding rowAt actual
-returns-2 c =
-    let kind = c .before .before .word .ensures .0 in
-    let supply = ⊎-elim (λ k. inl (sym kind ∙ k)) (λ k. inr (sym kind ∙ k)) (c .before .match .keys1) in
-    (c .actual .ensures .0 ∙ sym (numerator-supply _ supply), c .actual .ensures .1)
+supplied kind share row points word key given = given ∙ sym (numerator-supply _ (⊎-elim (λ k. inl (sym word ∙ k)) (λ k. inr (sym word ∙ k)) key))
+
+returns-2 : tie.Need-returns-2
+returns-2 c = search (needs, supplied)
 
 returns-3 : tie.Need-returns-3
 unfolding rowAt actual

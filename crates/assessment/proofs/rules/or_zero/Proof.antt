@@ -1,5 +1,5 @@
 -- `assessment::rules::or_zero` meets its contract. The sign is tested; a number that is not negative is its own size.
-use mathlib.Core.Path.{_≡_, sym}
+use mathlib.Core.Path.{sym}
 use native.Mathlib.Omega.{arith}
 use Rattle.words.proofs.Ints.{plain}
 use Rattle.assessment.proofs.RuleLaws.{negative, not-negative}

@@ -1,14 +1,14 @@
 -- `assessment::sums::ratio_sides` meets its contract. What is left to add is the shares of the rows from i on.
-use Prim.Native.Nat.{ℕ, _+_, _-_, _*_, _≤_, _<_}
+use Prim.Native.Nat.{_+_, _-_, _*_, _≤_, _<_}
 use mathlib.Core.Path.{_≡_, ap, ap₂}
 use mathlib.Core.Bool.{false}
 use native.Mathlib.Omega.{arith}
 use borrow.Author.Needs.{needs}
 use Rattle.words.specs.Lists.{sum, any}
-use Rattle.reading.specs.Interval.{Row, kindOf, headerOf, rowsOf}
+use Rattle.reading.specs.Interval.{headerOf, rowsOf}
 use Rattle.reading.proofs.Walk.{rowsLeft}
-use Rattle.assessment.specs.Assessment.{numeratorShare, denominatorShareAs, numerator, denominator}
-use Rattle.assessment.proofs.SumLaws.{lowerShare, part-length, curve-within, lower-in-parts, sum-start, sum-turn, sum-end, fails, fails-start, fails-turn, points-within, row-in-parts}
+use Rattle.assessment.specs.Assessment.{numeratorShare, numerator, denominator}
+use Rattle.assessment.proofs.SumLaws.{lowerShare, part-length, curve-within, lower-in-parts, sum-start, sum-turn, sum-end, fails, fails-start, fails-turn, row-in-parts}
 use Rattle.assessment.proofs.sums.ratio_sides.Statement.{statement}
 use Rattle.assessment.proofs.sums.ratio_sides.Tie as tie
 

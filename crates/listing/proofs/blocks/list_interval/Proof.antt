@@ -48,7 +48,7 @@ returns c =
 put-row-lines-requires : tie.Need-put-row-lines-requires
 put-row-lines-requires c κs =
     let s = accepted (c .before .before) in
-    (s .header, (s .rows-lie, (omega (arith, s .room), omega (arith, s .rows-few))))
+    (s .header, (s .tables .rows-lie, (omega (arith, s .room), omega (arith, s .tables .rows))))
 
 word-requires : tie.Need-word-requires
 word-requires c κs =
@@ -58,7 +58,7 @@ word-requires c κs =
 put-pool-line-requires : tie.Need-put-pool-line-requires
 put-pool-line-requires c κs =
     let s = accepted (c .before .before .before .before .before .before .before .before) in
-    (omega (arith, s .room), omega (arith, s .rows-few))
+    (omega (arith, s .room), omega (arith, s .tables .rows))
 
 same-length-4 : tie.Need-same-length-4
 same-length-4 c = search needs
@@ -79,7 +79,7 @@ returns-2 c =
     let zero = settle .before .before .before .before .before in
     let start = zero .before .before .before .before .before .before in
     interval-settled _ _ _ _ _ _ (zero .clear .ensures ∙ result-cleared (start .args .result .now) (start .pre .0)) (settle .settle-file .ensures .0) (settle .settle-file .ensures .1 .0) _ _ _ _ _ _ _ (else .if1 .left)
-    (settle .settle-file .ensures .1 .1) (pool .before .before .word .ensures .0) (omega arith) (omega (arith, accepted else .rows-few)) (omega arith)
+    (settle .settle-file .ensures .1 .1) (pool .before .before .word .ensures .0) (omega arith) (omega (arith, accepted else .tables .rows)) (omega arith)
     (rows .put-row-lines .ensures .0) (rows .put-row-lines .ensures .1 .0)
     (pool .put-pool-line .ensures .0) (pool .put-pool-line .ensures .1 .0)
 
