@@ -1,6 +1,6 @@
 -- The worked figures, computed.
 use mathlib.Core.Path.{refl}
-use Rattle.assessment.specs.Figures.{curveA, onA, prd, withBonus, shared, provedFigures, ProvedFigures, row11, row12, row13, row14, importing, listed, withForced, denied, workedFigures, WorkedFigures}
+use Rattle.assessment.specs.Figures.{curveA, onA, prd, withBonus, shared, provedFigures, ProvedFigures, row11, row12, row13, row14, importing, listed, withForced, withPlanned, eachKind, unshared, denied, workedFigures, WorkedFigures}
 use Rattle.assessment.proofs.Computing.{computing}
 
 pub proved-figures : ProvedFigures
@@ -8,5 +8,5 @@ unfolding ProvedFigures provedFigures curveA onA prd withBonus shared computing
 proved-figures = refl
 
 pub worked-figures : WorkedFigures
-unfolding WorkedFigures workedFigures curveA onA prd row11 row12 row13 row14 importing listed withForced denied computing
+unfolding WorkedFigures workedFigures curveA onA prd withBonus row11 row12 row13 row14 importing listed withForced withPlanned eachKind unshared denied computing
 worked-figures = refl

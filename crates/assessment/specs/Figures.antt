@@ -5,7 +5,7 @@ use lib.IntN.{ℤ, pos, negsuc}
 use Rattle.words.specs.Figures.{Figure, _gives_, AllAsStated, test}
 use Rattle.reading.specs.Block.{Terms}
 use Rattle.reading.specs.Interval.{Header, Point, Row}
-use Rattle.assessment.specs.Assessment.{Ratio, RowFigures, Account, ChargedRow, Assessed, fromLastReached, firstKw, scheduled, considered, expected, bonus, numeratorShare, numerator, ratioOf, printedRatio, rowFigures, raised, limit, charge, chargedRow, pool, credit, carriedOn}
+use Rattle.assessment.specs.Assessment.{Ratio, RowFigures, Account, ChargedRow, Assessed, actual, fromLastReached, firstKw, scheduled, considered, expected, bonus, numeratorShare, numerator, denominator, ratioOf, printedRatio, outage, economic, rowFigures, raised, limit, fullCharge, charge, chargedRow, pool, credit, credits, carriedOn}
 
 -- a point
 abbrev pub at : ℤ → ℕ → Point
@@ -29,6 +29,26 @@ row kind committed owned metered planned forced maximum minimum online lmp curve
   firstPoint = 0;
   pointCount = 0;
   curve = curve;
+}
+
+-- a row with an adjustment
+abbrev pub adjusted : ℤ → Row → Row
+adjusted kw r = record {
+  id = r .id;
+  kind = r .kind;
+  committed = r .committed;
+  owned = r .owned;
+  metered = r .metered;
+  adjustment = kw;
+  planned = r .planned;
+  forced = r .forced;
+  maximum = r .maximum;
+  minimum = r .minimum;
+  online = r .online;
+  lmp = r .lmp;
+  firstPoint = r .firstPoint;
+  pointCount = r .pointCount;
+  curve = r .curve;
 }
 
 -- curve A
@@ -82,6 +102,7 @@ provedFigures =
     ∷ charge (terms 1) (account 4000000 0) 987 gives 1
     ∷ limit (terms 30000) 1 gives 16425
     ∷ charge (terms 30000) (account 1 16400) 1 gives 25
+    ∷ fullCharge (terms 30000) 1 gives 30
     ∷ pool shared gives 557628
     ∷ credit shared (withBonus 30000) gives 418210
     ∷ credit shared (withBonus 10001) gives 139417
@@ -99,7 +120,7 @@ row11 = row 0 100000 110000 (pos 60000) 10000 0 110000 20000 1 (pos 3000) curveA
 
 -- row 12
 unfoldable pub row12 : Row
-row12 = row 0 50000 60000 (pos 25000) 0 35000 25000 10000 1 (pos 6001) (at (pos 1000) 10000 ∷ at (pos 6000) 50000 ∷ [])
+row12 = adjusted (pos 5000) (row 0 50000 60000 (pos 20000) 0 35000 25000 10000 1 (pos 6001) (at (pos 1000) 10000 ∷ at (pos 6000) 50000 ∷ []))
 
 -- row 13
 unfoldable pub row13 : Row
@@ -127,66 +148,129 @@ importing regionWide imports = record {
 unfoldable pub listed : List Row
 listed = row11 ∷ row12 ∷ row13 ∷ row14 ∷ []
 
+-- a row on curve A, scheduled to 60000 kW: kind, owned, metered, planned, forced and maximum
+abbrev pub at60 : ℕ → ℕ → ℤ → ℕ → ℕ → ℕ → Row
+at60 kind owned metered planned forced maximum = row kind 100000 owned metered planned forced maximum 20000 1 (pos 3000) curveA
+
 -- committed 100000 at ratio 1, owned 110000, forced 30000, maximum 110000, scheduled 60000, actual 50000
 unfoldable pub withForced : RowFigures
-withForced = rowFigures (over 1 1) (row 0 100000 110000 (pos 50000) 0 30000 110000 20000 1 (pos 3000) curveA)
+withForced = rowFigures (over 1 1) (at60 0 110000 (pos 50000) 0 30000 110000)
 
--- a PRD row of 3000 kW that is not considered, with a shortfall and a credit to deny, and its charge at 30000 cents
-unfoldable pub denied : ChargedRow
-denied = chargedRow (terms 30000) (account 3000 0 ∷ []) (over 1 1) (row 3 3000 0 (pos 1000) 0 0 0 0 0 (pos 499) (at (pos 500) 5 ∷ []))
+-- the same with its outage planned, and so many kW owned
+unfoldable pub withPlanned : ℕ → RowFigures
+withPlanned owned = rowFigures (over 1 1) (at60 0 owned (pos 50000) 30000 0 110000)
 
--- figures that tell each rule from the wrong one nearest to it
+-- a row of a kind with a commitment, and nothing else
+abbrev pub onKind : ℕ → ℕ → Row
+onKind kind committed = row kind committed 0 (pos 0) 0 0 0 0 0 (pos 0) []
+
+-- one row of each kind from 0 to 4
+unfoldable pub eachKind : List Row
+eachKind = onKind 0 1 ∷ onKind 1 10 ∷ onKind 2 100 ∷ onKind 3 1000 ∷ onKind 4 10000 ∷ []
+
+-- a pool of 557628 cents and no bonus
+unfoldable pub unshared : Assessed
+unshared = record { ratio = over 0 0; rows = withBonus 0 ∷ []; carried = 557628 }
+
+-- a PRD row of 3000 kW that is not considered, with a shortfall or a bonus to deny by what is metered, and its charge at 30000 cents
+unfoldable pub denied : ℤ → ChargedRow
+denied metered = chargedRow (terms 30000) (account 3000 0 ∷ []) (over 1 1) (row 3 3000 0 metered 0 0 0 0 0 (pos 499) (at (pos 500) 5 ∷ []))
+
+-- figures that tell each rule from the wrong ones nearest to it, in document 01's order
 unfoldable pub workedFigures : List Figure
 workedFigures =
-    -- the ratio is not rounded before it is multiplied (3466692 by way of millionths)
-    expected (over 130001 150000) (row 0 4000000 0 (pos 0) 0 0 0 0 0 (pos 0) []) gives 3466693
-    -- expected is never above committed, and 0 if the denominator is 0
-    ∷ expected (over 3 2) (row 0 100000 0 (pos 0) 0 0 0 0 0 (pos 0) []) gives 100000
-    ∷ expected (over 3 0) (row 0 100000 0 (pos 0) 0 0 0 0 0 (pos 0) []) gives 0
-    ∷ printedRatio (over 3 2) gives 1000000
-    ∷ printedRatio (over 3 0) gives 0
-    -- forced outage is not excused by the economic rule (40000 if it were), and is in no outage
-    ∷ withForced .economic gives 20000
-    ∷ withForced .outage gives 0
-    ∷ withForced .shortfall gives 30000
-    -- imports count only when region-wide and positive
-    ∷ printedRatio (ratioOf (importing 0 (pos 19999)) listed) gives 866673
-    ∷ printedRatio (ratioOf (importing 1 (pos 19999)) listed) gives 1000000
-    ∷ numerator (importing 1 (pos 9)) listed gives 130010
-    ∷ numerator (importing 1 (negsuc 9)) listed gives 130001
-    -- the numerator takes the actual of kinds 0 and 4 uncut, the bonus cuts it
-    ∷ numeratorShare (row 0 50000 0 (pos 70000) 0 0 110000 20000 1 (pos 3000) curveA) gives 70000
-    ∷ numeratorShare (row 4 0 0 (pos 70000) 0 0 110000 20000 1 (pos 3000) curveA) gives 70000
-    ∷ bonus (row 0 50000 0 (pos 70000) 0 0 110000 20000 1 (pos 3000) curveA) 50000 gives 10000
-    ∷ bonus (row 4 0 0 (pos 70000) 0 0 110000 20000 1 (pos 3000) curveA) 0 gives 60000
-    -- kind 2 has a bonus, and no share of the numerator
-    ∷ bonus (row 2 1000 0 (pos 5000) 0 0 0 0 0 (pos 0) []) 1000 gives 4000
-    ∷ numeratorShare (row 2 1000 0 (pos 5000) 0 0 0 0 0 (pos 0) []) gives 0
-    -- kinds 1 and 3 add their bonus, not their actual; a PRD row not considered adds none
-    ∷ numeratorShare row14 gives 10001
-    ∷ numeratorShare (row 3 3000 0 (pos 5000) 0 0 0 0 0 (pos 2000) (at (pos 2000) 1 ∷ [])) gives 2000
-    ∷ numeratorShare (row 3 3000 0 (pos 5000) 0 0 0 0 0 (pos 1999) (at (pos 2000) 1 ∷ [])) gives 0
+    -- actual: a sum of signed numbers, and 0 if that is negative
+    actual (adjusted (pos 5000) (row 0 0 0 (negsuc 2999) 0 0 0 0 0 (pos 0) [])) gives 2000
+    ∷ actual (adjusted (pos 2) (row 0 0 0 (negsuc 4) 0 0 0 0 0 (pos 0) [])) gives 0
+    ∷ actual row12 gives 25000
+    -- scheduled: with no points the committed kW, neither raised nor cut
+    ∷ scheduled (row 0 7 0 (pos 0) 0 0 5 0 1 (pos 0) []) gives 7
+    -- of equal prices the last; and the last point at or below the LMP wherever it stands
+    ∷ scheduled (row 0 0 0 (pos 0) 0 0 90 0 0 (pos 10) (at (pos 10) 1 ∷ at (pos 10) 3 ∷ at (pos 20) 13 ∷ [])) gives 3
+    ∷ firstKw (fromLastReached (pos 25) (at (pos 10) 1 ∷ at (pos 30) 2 ∷ at (pos 20) 3 ∷ at (pos 40) 4 ∷ [])) gives 3
+    -- the way to the next point is rounded down (not to the nearest, 7), and once (4 by way of the slope)
+    ∷ scheduled (row 0 0 0 (pos 0) 0 0 90 0 0 (pos 2) (at (pos 0) 0 ∷ at (pos 3) 10 ∷ [])) gives 6
+    ∷ scheduled (row 0 0 0 (pos 0) 0 0 90 0 0 (pos 2) (at (pos 0) 0 ∷ at (pos 4) 10 ∷ [])) gives 5
     -- offline, a row on its curve is not set to 0; it is not raised to its minimum, but cut to its maximum
     ∷ scheduled (onA 0 (pos 3001)) gives 60020
     ∷ scheduled (row 0 0 0 (pos 0) 0 0 110000 70000 0 (pos 3001) curveA) gives 60020
     ∷ scheduled (row 0 0 0 (pos 0) 0 0 110000 70000 1 (pos 3001) curveA) gives 70000
     ∷ scheduled (row 0 0 0 (pos 0) 0 0 50000 0 0 (pos 3001) curveA) gives 50000
-    -- with no points the committed kW, neither raised nor cut
-    ∷ scheduled (row 0 7 0 (pos 0) 0 0 5 0 1 (pos 0) []) gives 7
-    -- of equal prices the last; and the last point at or below the LMP wherever it stands
-    ∷ scheduled (row 0 0 0 (pos 0) 0 0 90 0 0 (pos 10) (at (pos 10) 1 ∷ at (pos 10) 3 ∷ at (pos 20) 13 ∷ [])) gives 3
-    ∷ firstKw (fromLastReached (pos 25) (at (pos 10) 1 ∷ at (pos 30) 2 ∷ at (pos 20) 3 ∷ at (pos 40) 4 ∷ [])) gives 3
     -- PRD without points is never considered
     ∷ test (considered (row 3 1 0 (pos 0) 0 0 0 0 0 (pos 1000000) [])) gives 0
     -- a PRD row not considered: words that are 0, and a commitment raised all the same
-    ∷ denied .figures .expected gives 0
-    ∷ denied .figures .actual gives 0
-    ∷ denied .figures .shortfall gives 0
-    ∷ denied .charge gives 0
+    ∷ denied (pos 1000) .figures .expected gives 0
+    ∷ denied (pos 1000) .figures .actual gives 0
+    ∷ denied (pos 1000) .figures .shortfall gives 0
+    ∷ denied (pos 1000) .charge gives 0
+    ∷ denied (pos 5000) .figures .bonus gives 0
     ∷ raised (prd (pos 1999)) (account 2000 0) .largest gives 3000
-    -- the limit goes by the largest commitment so far, today's or an earlier one
-    ∷ charge (terms 30000) (raised (row 0 0 0 (pos 0) 0 0 0 0 0 (pos 0) []) (account 1 16400)) 1 gives 25
-    ∷ charge (terms 30000) (raised (row 0 2 0 (pos 0) 0 0 0 0 0 (pos 0) []) (account 1 16400)) 1 gives 30
+    -- expected of kinds 1, 2 and 3 is the committed kW whatever the ratio, and of kind 4 nothing
+    ∷ expected (over 1 2) (onKind 1 1000) gives 1000
+    ∷ expected (over 1 2) (onKind 2 1000) gives 1000
+    ∷ expected (over 1 2) (onKind 3 1000) gives 1000
+    ∷ expected (over 1 2) (onKind 4 1000) gives 0
+    -- the bonus of kinds 0 and 4 is cut to the scheduled kW, that of kinds 1, 2 and 3 is not
+    ∷ bonus (at60 0 0 (pos 70000) 0 0 110000) 50000 gives 10000
+    ∷ bonus (at60 1 0 (pos 70000) 0 0 110000) 50000 gives 20000
+    ∷ bonus (at60 2 0 (pos 70000) 0 0 110000) 50000 gives 20000
+    ∷ bonus (at60 3 0 (pos 70000) 0 0 110000) 50000 gives 20000
+    ∷ bonus (at60 4 0 (pos 70000) 0 0 110000) 0 gives 60000
+    -- the numerator takes the actual of kinds 0 and 4 uncut, the bonus of kinds 1 and 3, and nothing of kind 2
+    ∷ numeratorShare (at60 0 0 (pos 70000) 0 0 110000) gives 70000
+    ∷ numeratorShare (at60 4 0 (pos 70000) 0 0 110000) gives 70000
+    ∷ numeratorShare row14 gives 10001
+    ∷ numeratorShare (row 2 1000 0 (pos 5000) 0 0 0 0 0 (pos 0) []) gives 0
+    ∷ numeratorShare (row 3 3000 0 (pos 5000) 0 0 0 0 0 (pos 2000) (at (pos 2000) 1 ∷ [])) gives 2000
+    -- a PRD row not considered adds none
+    ∷ numeratorShare (row 3 3000 0 (pos 5000) 0 0 0 0 0 (pos 1999) (at (pos 2000) 1 ∷ [])) gives 0
+    -- imports count only when region-wide and positive
+    ∷ printedRatio (ratioOf (importing 0 (pos 19999)) listed) gives 866673
+    ∷ printedRatio (ratioOf (importing 1 (pos 19999)) listed) gives 1000000
+    ∷ numerator (importing 1 (pos 9)) listed gives 130010
+    ∷ numerator (importing 1 (negsuc 9)) listed gives 130001
+    -- the denominator takes kind 0 alone
+    ∷ denominator eachKind gives 1
+    -- the ratio is not rounded before it is multiplied (3466692 by way of millionths)
+    ∷ expected (over 130001 150000) (onKind 0 4000000) gives 3466693
+    -- expected is never above committed, and 0 if the denominator is 0
+    ∷ expected (over 3 2) (onKind 0 100000) gives 100000
+    ∷ expected (over 3 0) (onKind 0 100000) gives 0
+    ∷ printedRatio (over 3 2) gives 1000000
+    ∷ printedRatio (over 3 0) gives 0
+    -- outage is word 6 for kinds 0 and 4 alone
+    ∷ outage (at60 0 0 (pos 0) 7 5 110000) gives 7
+    ∷ outage (at60 1 0 (pos 0) 7 5 110000) gives 0
+    ∷ outage (at60 2 0 (pos 0) 7 5 110000) gives 0
+    ∷ outage (at60 3 0 (pos 0) 7 5 110000) gives 0
+    ∷ outage (at60 4 0 (pos 0) 7 5 110000) gives 7
+    -- forced outage is not excused by the economic rule (40000 if it were), and is in no outage
+    ∷ withForced .economic gives 20000
+    ∷ withForced .outage gives 0
+    ∷ withForced .shortfall gives 30000
+    -- planned outage is an outage, is taken off the owned kW (40000 if it were not), and off the shortfall
+    ∷ withPlanned 110000 .outage gives 30000
+    ∷ withPlanned 110000 .economic gives 20000
+    ∷ withPlanned 110000 .shortfall gives 0
+    ∷ withPlanned 90000 .shortfall gives 20000
+    -- economic goes up to the emergency maximum, the expected kW or the owned kW, and from the greater of scheduled and actual on
+    ∷ economic (at60 0 110000 (pos 50000) 0 0 70000) 100000 gives 10000
+    ∷ economic (at60 0 110000 (pos 50000) 0 0 110000) 65000 gives 5000
+    ∷ economic (at60 0 62000 (pos 50000) 0 0 110000) 100000 gives 2000
+    ∷ economic (at60 0 110000 (pos 65000) 0 0 110000) 100000 gives 35000
+    ∷ economic (at60 0 20000 (pos 0) 15000 15000 110000) 100000 gives 0
+    -- and is of kinds 0 and 4 alone
+    ∷ economic (at60 1 110000 (pos 50000) 0 0 110000) 100000 gives 0
+    ∷ economic (at60 2 110000 (pos 50000) 0 0 110000) 100000 gives 0
+    ∷ economic (at60 3 110000 (pos 50000) 0 0 110000) 100000 gives 0
+    ∷ economic (at60 4 110000 (pos 50000) 0 0 110000) 100000 gives 40000
+    -- the limit is rounded down (3285 of 2000), and goes by the largest commitment so far, today's or an earlier one
+    ∷ limit (terms 1) 3 gives 1
+    ∷ charge (terms 30000) (raised (onKind 0 0) (account 1 16400)) 1 gives 25
+    ∷ charge (terms 30000) (raised (onKind 0 2) (account 1 16400)) 1 gives 30
+    -- with no bonus nothing is credited, and the whole pool is carried
+    ∷ credits unshared gives 0
+    ∷ carriedOn unshared gives 557628
     ∷ []
 
 -- the claim over all of them
