@@ -38,6 +38,12 @@ pub fn long_at(buffer: &[u8], word: usize) -> Option<u64> {
     Some(u64::from_le_bytes(bytes.try_into().ok()?))
 }
 
+/// Two digits for each byte.
+pub fn hex<'a>(bytes: impl IntoIterator<Item = &'a u8>) -> String {
+    let digits = |byte| format!("{byte:02x}");
+    bytes.into_iter().map(digits).collect()
+}
+
 /// An opening block.
 #[derive(Clone, Debug)]
 pub struct Opening {

@@ -87,47 +87,35 @@ impl Program {
         command.stdin(self.stdin(stream, input)?);
         command.stdout(Stdio::piped());
         let mut child = command.spawn().map_err(text)?;
-        let (written, status) = thread::scope(|scope| {
+        let id = child.id();
+        let (status, written) = thread::scope(|scope| {
             let (ended, until) = mpsc::channel();
-            let (taken, writes) = mpsc::channel();
             if let Some(pipe) = child.stdin.take() {
                 scope.spawn(move || feed(pipe, stream, input, &until));
             }
-            let from = child.stdout.take().expect("its output is a pipe");
-            let id = child.id();
-            scope.spawn(move || taken.send(take(from, id, output)));
-            let written = writes.recv_timeout(self.patience);
-            let status = self.end(&mut child, written.is_ok());
+            let outcome = self.outcome(&mut child, |from| take(from, id, output));
             drop(ended);
-            (written, status)
-        });
-        match (written, status?) {
-            (Ok(written), status) if status.signal().is_none() => written.map_err(text),
-            (_, status) => Err(format!("it ended with {status}")),
+            outcome
+        })?;
+        match status.signal() {
+            None => Ok(written),
+            Some(_) => Err(format!("it ended with {status}")),
         }
     }
 
     /// What the program wrote before its output was closed; it must end, by a signal or not.
     pub fn run_closed(&self, stream: &[u8], closed: Closed) -> Result<Vec<u8>, String> {
-        let mut command = match closed {
-            Closed::Reader(_) => Command::new(&self.path),
-            Closed::ReaderIgnored(_) => self.shell("trap '' PIPE; exec \"$0\""),
-            Closed::Nothing => self.shell("exec \"$0\" >&-"),
-            Closed::Full => self.shell("exec \"$0\" >/dev/full"),
+        let (mut command, most) = match closed {
+            Closed::Reader(most) => (Command::new(&self.path), most),
+            Closed::ReaderIgnored(most) => (self.shell("trap '' PIPE; exec \"$0\""), most),
+            Closed::Nothing => (self.shell("exec \"$0\" >&-"), 0),
+            Closed::Full => (self.shell("exec \"$0\" >/dev/full"), 0),
         };
         command.stdin(self.stdin(stream, Input::File)?);
         command.stdout(Stdio::piped()).stderr(Stdio::null());
         let mut child = command.spawn().map_err(text)?;
-        let from = child.stdout.take().expect("its output is a pipe");
-        let mut written = Vec::new();
-        let read = match closed {
-            Closed::Reader(most) | Closed::ReaderIgnored(most) => {
-                from.take(most as u64).read_to_end(&mut written)
-            }
-            Closed::Nothing | Closed::Full => Ok(0),
-        };
-        self.end(&mut child, true)?;
-        read.map(|_| written).map_err(text)
+        let (_, written) = self.outcome(&mut child, |from| read(from.take(most as u64)))?;
+        Ok(written)
     }
 
     /// What the program writes if its input cannot be read.
@@ -139,11 +127,8 @@ impl Program {
         command.stdin(Stdio::null()).stdout(Stdio::piped());
         command.stderr(Stdio::null());
         let mut child = command.spawn().map_err(text)?;
-        let mut written = Vec::new();
-        let from = child.stdout.take().expect("its output is a pipe");
-        self.end(&mut child, true)?;
-        let read = { from }.read_to_end(&mut written);
-        read.map(|_| written).map_err(text)
+        let (_, written) = self.outcome(&mut child, read)?;
+        Ok(written)
     }
 
     /// The program with its input from a file and its output into another: how long it takes, and the output.
@@ -180,6 +165,23 @@ impl Program {
             Input::File => Ok(File::open(self.file(stream)?).map_err(text)?.into()),
             _ => Ok(Stdio::piped()),
         }
+    }
+
+    /// How the program ended, and what was taken from its output; patience is for each of the two.
+    fn outcome(
+        &self,
+        child: &mut Child,
+        take: impl FnOnce(ChildStdout) -> io::Result<Vec<u8>> + Send,
+    ) -> Result<(ExitStatus, Vec<u8>), String> {
+        let from = child.stdout.take().expect("its output is a pipe");
+        thread::scope(|scope| {
+            let (taken, writes) = mpsc::channel();
+            scope.spawn(move || taken.send(take(from)));
+            let written = writes.recv_timeout(self.patience);
+            let status = self.end(child, written.is_ok())?;
+            let written = written.expect("else it did not end");
+            Ok((status, written.map_err(text)?))
+        })
     }
 
     /// How the program ended; one that does not end is ended here, and that is an error.
@@ -265,8 +267,15 @@ fn take(mut from: ChildStdout, id: u32, output: Output) -> io::Result<Vec<u8>> {
             }
         }
     }
-    from.read_to_end(&mut taken)?;
+    taken.extend(read(from)?);
     Ok(taken)
+}
+
+/// All that is left to read.
+fn read(mut from: impl Read) -> io::Result<Vec<u8>> {
+    let mut bytes = Vec::new();
+    from.read_to_end(&mut bytes)?;
+    Ok(bytes)
 }
 
 /// Sends a signal to a child that was not waited for.

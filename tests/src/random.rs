@@ -25,6 +25,11 @@ impl Rng {
         Rng(seed)
     }
 
+    /// The numbers of one case or year in a run with this seed.
+    pub fn of(seed: u64, number: u64) -> Self {
+        Rng(Rng(seed).draw().wrapping_add(number))
+    }
+
     /// Any 64 bits.
     pub fn draw(&mut self) -> u64 {
         self.0 = self.0.wrapping_add(0x9e37_79b9_7f4a_7c15);
@@ -54,6 +59,12 @@ impl Rng {
         values[self.index(values.len())]
     }
 
+    /// One of the bounds, or up to 2 off.
+    pub fn near(&mut self, bounds: &[u32]) -> u32 {
+        let off = self.between(-2, 2) as u32;
+        self.pick(bounds).wrapping_add(off)
+    }
+
     /// A place in a list of this length.
     pub fn index(&mut self, length: usize) -> usize {
         self.below(length as u64) as usize
@@ -74,6 +85,16 @@ impl Rng {
     pub fn bytes(&mut self, length: usize) -> Vec<u8> {
         (0..length).map(|_| self.draw() as u8).collect()
     }
+}
+
+/// Attempts after which a maker of cases is taken to be broken.
+const ATTEMPTS: usize = 1_000;
+
+/// What the first attempt that succeeds gives; it panics if too many fail.
+pub fn first_made<T>(what: &str, mut attempt: impl FnMut() -> Option<T>) -> T {
+    (0..ATTEMPTS)
+        .find_map(|_| attempt())
+        .unwrap_or_else(|| panic!("{what}: none in {ATTEMPTS} attempts"))
 }
 
 // ---------------------------------------------------------------- sizes
@@ -251,6 +272,17 @@ impl World {
             ids: rising_ids(rng, count),
             scale: KW_MOST,
             short: true,
+        }
+    }
+
+    /// A year with as many plants as there may be.
+    pub fn full() -> Self {
+        World {
+            net_cone: 30_000,
+            days: 365,
+            ids: rising(FULL.ids),
+            scale: 200_000,
+            short: false,
         }
     }
 
@@ -538,6 +570,11 @@ impl World {
     }
 }
 
+/// So many ids, 7 apart.
+pub fn rising(count: usize) -> Vec<u32> {
+    (1..=count as u32).map(|index| 7 * index).collect()
+}
+
 /// Ids that rise, near each other or far apart, up to the largest word.
 fn rising_ids(rng: &mut Rng, count: usize) -> Vec<u32> {
     let room = u64::from(u32::MAX) / count as u64;
@@ -663,24 +700,23 @@ pub fn valid_settle(rng: &mut Rng, size: &Size) -> SettleCase {
 
 /// A settling whose pool ends at its limit, one cent below or one above.
 pub fn pool_at_limit(rng: &mut Rng, size: &Size) -> SettleCase {
-    loop {
+    let (mut case, charges) = first_made("a settling with charges", || {
         let world = World::heavy(rng, size);
         let interval = rng.below(world.intervals().into()) as u32;
         let file = world.file(rng, size, interval);
-        let mut case = SettleCase {
+        let case = SettleCase {
             ledger: world.heavy_ledger(rng, 0),
             result_length: 64 + 64 * file.rows.len(),
             file,
         };
         let charges = charges_of(rng, &case);
-        if charges > 1 {
-            let carried = POOL_MOST - charges + rng.pick(&[0, 1, 2, 2]) - 1;
-            let total: u64 = case.ledger.accounts.iter().map(|a| a[2]).sum();
-            case.ledger.words[4] = carried;
-            spread_credits(rng, &mut case.ledger, total - carried);
-            return case;
-        }
-    }
+        (charges > 1).then_some((case, charges))
+    });
+    let carried = POOL_MOST - charges + rng.pick(&[0, 1, 2, 2]) - 1;
+    let total: u64 = case.ledger.accounts.iter().map(|a| a[2]).sum();
+    case.ledger.words[4] = carried;
+    spread_credits(rng, &mut case.ledger, total - carried);
+    case
 }
 
 /// The charges of an accepted case, else 0.
@@ -1305,7 +1341,7 @@ pub fn open_call(rng: &mut Rng, size: &Size) -> OpenCall {
 
 /// A call to opening of any sort; a single damage is for this ground.
 pub fn open_call_for(rng: &mut Rng, size: &Size, ground: u32) -> OpenCall {
-    loop {
+    first_made("an opening with small counts", || {
         let mut call = match rng.below(20) {
             0..=7 => valid_open(rng, size).call(rng),
             8..=16 => damaged_open(rng, size, ground).call(rng),
@@ -1317,10 +1353,8 @@ pub fn open_call_for(rng: &mut Rng, size: &Size, ground: u32) -> OpenCall {
             2 => scramble(rng, &mut call.block),
             _ => (),
         }
-        if open_counts_fit(&call, size) {
-            return call;
-        }
-    }
+        open_counts_fit(&call, size).then_some(call)
+    })
 }
 
 /// A call to settling of any sort, from valid to random bytes.
@@ -1331,7 +1365,7 @@ pub fn settle_call(rng: &mut Rng, size: &Size) -> SettleCall {
 
 /// A call to settling of any sort; a single damage is for this ground.
 pub fn settle_call_for(rng: &mut Rng, size: &Size, ground: u32) -> SettleCall {
-    loop {
+    first_made("a settling with small counts", || {
         let mut call = match rng.below(20) {
             0..=7 => valid_settle(rng, size).call(rng),
             8..=15 => damaged_settle(rng, size, ground).call(rng),
@@ -1347,10 +1381,8 @@ pub fn settle_call_for(rng: &mut Rng, size: &Size, ground: u32) -> SettleCall {
             6 => scramble(rng, &mut call.ledger),
             _ => (),
         }
-        if settle_counts_fit(&call, size) {
-            return call;
-        }
-    }
+        settle_counts_fit(&call, size).then_some(call)
+    })
 }
 
 /// A block at the length limit, ids somewhere in it.
@@ -1424,12 +1456,10 @@ impl RunningYear {
 
     /// The next call, with the ledger as it was before; the year moves on.
     pub fn next_call(&mut self, rng: &mut Rng, size: &Size) -> SettleCall {
-        let call = loop {
+        let call = first_made("a call with small counts", || {
             let call = self.some_call(rng, size);
-            if settle_counts_fit(&call, size) {
-                break call;
-            }
-        };
+            settle_counts_fit(&call, size).then_some(call)
+        });
         self.last_file.clone_from(&call.file);
         let mut result = call.result.clone();
         reference::settle(&mut self.ledger, &call.file, &mut result);

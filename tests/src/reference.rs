@@ -462,6 +462,7 @@ struct Figures {
 
 /// The figures of an interval before money.
 struct Assessment {
+    /// In millionths.
     ratio: Whole,
     numerator: Whole,
     denominator: Whole,
@@ -531,20 +532,12 @@ fn expected_fixed(row: &Row) -> Whole {
     }
 }
 
-/// The kW expected of kind 0: its share of the commitments by the ratio.
-fn expected_by_ratio(committed: Whole, numerator: Whole, denominator: Whole) -> Whole {
+/// So much by the ratio: rounded down once, never above it, and 0 if the denominator is 0.
+fn by_ratio(most: Whole, numerator: Whole, denominator: Whole) -> Whole {
     if denominator == 0 {
         return 0;
     }
-    (committed * numerator / denominator).min(committed)
-}
-
-/// The ratio in millionths.
-fn ratio(numerator: Whole, denominator: Whole) -> Whole {
-    if denominator == 0 {
-        return 0;
-    }
-    (1_000_000 * numerator / denominator).min(1_000_000)
+    (most * numerator / denominator).min(most)
 }
 
 /// The kW above the expected; a generator earns none above its schedule.
@@ -614,7 +607,7 @@ fn figures(row: &Row, points: &[Point], numerator: Whole, denominator: Whole) ->
         return Figures::default();
     }
     let expected = if row.kind == GENERATION {
-        expected_by_ratio(row.committed, numerator, denominator)
+        by_ratio(row.committed, numerator, denominator)
     } else {
         expected_fixed(row)
     };
@@ -640,7 +633,7 @@ fn assess(head: &Head, rows: &[Row], table: &[Point]) -> Assessment {
     let numerator = shares + imports_share(head);
     let denominator = rows.iter().map(denominator_share).sum();
     Assessment {
-        ratio: ratio(numerator, denominator),
+        ratio: by_ratio(1_000_000, numerator, denominator),
         numerator,
         denominator,
         rows: rows

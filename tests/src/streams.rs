@@ -3,9 +3,13 @@
 use crate::layout::{IntervalFile, Ledger, Opening, Row};
 use crate::listing;
 use crate::random::{
-    self, damage_settle, damaged_open, push_block, Rng, SettleCase, World, FULL, MIDDLE, SMALL,
+    self, damage_settle, damaged_open, first_made, push_block, Rng, SettleCase, World, FULL,
+    MIDDLE, SMALL,
 };
 use crate::reference::{npalist, open};
+
+/// The points of each row in a full file, which then has as many as there may be.
+pub const ROW_POINTS: usize = 4;
 
 /// A stream and what it is called.
 pub struct Case {
@@ -29,13 +33,18 @@ pub fn stream_of(blocks: &[&[u8]]) -> Vec<u8> {
     stream
 }
 
-/// The opening of document 01 and its file, for two intervals.
-pub fn two_intervals() -> Vec<u8> {
-    let [first, second] = [1000, 1001].map(|interval| listing::file(interval).bytes());
-    stream_of(&[&listing::opening().bytes(), &first, &second])
+/// The stream of document 01's listing.
+pub fn document() -> Vec<u8> {
+    stream_of(&[&listing::opening().bytes(), &listing::file(1000).bytes()])
 }
 
-/// The stream of document 01, cut at every byte.
+/// The opening of document 01 and its file, for two intervals.
+pub fn two_intervals() -> Vec<u8> {
+    let second = stream_of(&[&listing::file(1001).bytes()]);
+    [document(), second].concat()
+}
+
+/// The stream of two intervals, cut at every byte.
 pub fn prefixes() -> Vec<Case> {
     let stream = two_intervals();
     let cut = |length: usize| Case::new(format!("{length} bytes"), stream[..length].to_vec());
@@ -48,13 +57,12 @@ pub fn refused_openings(rng: &mut Rng, each: usize) -> Vec<Case> {
     let mut cases = Vec::new();
     for ground in 1..=4 {
         for number in 0..each {
-            let block = loop {
-                let block = damaged_open(rng, &FULL, ground).call(rng).block;
-                if open(&block, &mut vec![0; 16_448]) == ground {
-                    break block;
-                }
-            };
             let name = format!("opening refused by {ground}, number {number}");
+            let block = first_made(&name, || {
+                let block = damaged_open(rng, &FULL, ground).call(rng).block;
+                let answer = open(&block, &mut vec![0; 16_448]);
+                (answer == ground).then_some(block)
+            });
             cases.push(Case::new(name, stream_of(&[&block, &file])));
         }
     }
@@ -76,7 +84,7 @@ pub fn refused_files(rng: &mut Rng, each: usize) -> Vec<Case> {
 
 /// A stream of three files, of which this ground refuses the second and nothing the others.
 fn refused_in_the_middle(rng: &mut Rng, ground: u32) -> Vec<u8> {
-    loop {
+    first_made(&format!("a file refused by {ground} alone"), || {
         let world = World::any(rng, &MIDDLE);
         let [first, last] = [10, 12].map(|interval| world.file(rng, &MIDDLE, interval).bytes());
         let mut case = SettleCase {
@@ -96,10 +104,9 @@ fn refused_in_the_middle(rng: &mut Rng, ground: u32) -> Vec<u8> {
             .lines()
             .filter(|line| line.starts_with('r'))
             .collect();
-        if refusals == [format!("refused,2,{ground}")] && listing.contains("\npool,12,") {
-            return stream;
-        }
-    }
+        let alone = refusals == [format!("refused,2,{ground}")] && listing.contains("\npool,12,");
+        alone.then_some(stream)
+    })
 }
 
 /// Two intervals that fill the pool, one too many, and a smaller one in its place.
@@ -174,33 +181,29 @@ fn at_length(name: &str, before: &[u8], block: &[u8], length: u32, behind: &[u8]
 
 /// The longest opening with the most ids, and the longest file with the most rows and points, which all names.
 fn at_the_limits() -> Vec<u8> {
-    let world = full_world();
+    let world = World::full();
     let mut opening = Opening::new(world.net_cone, world.days, &world.ids);
     opening.place(4096 - 4 * 512, 0);
-    let mut file = world.full_file(&mut Rng::new(1), 0, 4);
+    let mut file = world.full_file(&mut Rng::new(1), 0, ROW_POINTS);
     file.place(40 + 8 * 2048, 40, 49_152);
-    let last = world.full_file(&mut Rng::new(2), 288 * 365 - 1, 4);
+    let last = world.full_file(&mut Rng::new(2), 288 * 365 - 1, ROW_POINTS);
     stream_of(&[&opening.bytes(), &file.bytes(), &last.bytes()])
 }
 
-/// A year with 512 plants.
-fn full_world() -> World {
-    World {
-        net_cone: 30_000,
-        days: 365,
-        ids: (1..=512).map(|index| 7 * index).collect(),
-        scale: 200_000,
-        short: false,
-    }
+/// Files of the full year's first intervals, so many.
+pub fn full_files(count: u32) -> Vec<Vec<u8>> {
+    let world = World::full();
+    let mut rng = Rng::new(1);
+    let mut file = |interval| world.full_file(&mut rng, interval, ROW_POINTS).bytes();
+    (0..count).map(&mut file).collect()
 }
 
-/// So many intervals of 512 rows with 4 points each.
+/// The full year with so many of its files.
 pub fn full_intervals(count: u32) -> Vec<u8> {
-    let world = full_world();
-    let mut rng = Rng::new(1);
+    let world = World::full();
     let mut stream = stream_of(&[&Opening::new(world.net_cone, world.days, &world.ids).bytes()]);
-    for interval in 0..count {
-        push_block(&mut stream, &world.full_file(&mut rng, interval, 4).bytes());
+    for file in full_files(count) {
+        push_block(&mut stream, &file);
     }
     stream
 }
@@ -223,17 +226,16 @@ pub fn long(rng: &mut Rng) -> Vec<Case> {
 
 /// A year of 4000 files that is not over soon.
 fn mixed(rng: &mut Rng) -> Vec<u8> {
-    loop {
+    first_made("a year that is not over soon", || {
         let year = random::year(rng, &SMALL, 4_000);
         let mut stream = stream_of(&[&year.block]);
         for (file, _) in &year.calls {
             push_block(&mut stream, file);
         }
         let listing = npalist(&stream);
-        if listing.windows(5).filter(|line| line == b"pool,").count() > 2_000 {
-            return stream;
-        }
-    }
+        let pools = listing.windows(5).filter(|line| line == b"pool,").count();
+        (pools > 2_000).then_some(stream)
+    })
 }
 
 /// The random stream with this number.

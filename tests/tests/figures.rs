@@ -2,8 +2,8 @@
 
 use npa_tests::layout::{long_at, point, IntervalFile, Ledger, Opening, Row};
 use npa_tests::listing::{self, curve_a, DAYS, IDS, NET_CONE};
-use npa_tests::random::push_block;
 use npa_tests::reference::{npalist, open, settle, HEADING};
+use npa_tests::streams::{document, stream_of};
 
 /// Settles one file into a ledger; the answer, the row words and the interval words.
 fn settled(ledger: &Ledger, file: &IntervalFile) -> (u32, Vec<[u64; 8]>, [u64; 8]) {
@@ -234,27 +234,17 @@ fn listed(stream: &[u8]) -> String {
         .to_string()
 }
 
-/// Blocks, each behind its length.
-fn stream(blocks: &[&[u8]]) -> Vec<u8> {
-    let mut stream = Vec::new();
-    for block in blocks {
-        push_block(&mut stream, block);
-    }
-    stream
-}
-
 #[test]
 fn the_whole_listing() {
-    let input = stream(&[&listing::opening().bytes(), &listing::file(1_000).bytes()]);
     let heading = "interval,id,expected,actual,outage,economic,shortfall,bonus,charge,credit\n";
     let output = [heading, EXAMPLE_LINES].concat();
-    assert_eq!(npalist(&input), output.as_bytes());
+    assert_eq!(npalist(&document()), output.as_bytes());
 }
 
 #[test]
 fn a_listing_of_any_first_part_of_a_stream() {
-    let opening = stream(&[&listing::opening().bytes()]);
-    let file = stream(&[&listing::file(1_000).bytes()]);
+    let opening = stream_of(&[&listing::opening().bytes()]);
+    let file = stream_of(&[&listing::file(1_000).bytes()]);
     let twice = [&opening[..], &file, &file].concat();
     for end in 0..=twice.len() {
         let first = opening.len() + file.len();
@@ -274,7 +264,7 @@ fn a_listing_of_any_first_part_of_a_stream() {
 fn a_listing_goes_on_after_a_refused_interval() {
     let opening = listing::opening().bytes();
     let file = listing::file(1_000).bytes();
-    let input = stream(&[&opening, &[], &listing::file(105_120).bytes(), &file]);
+    let input = stream_of(&[&opening, &[], &listing::file(105_120).bytes(), &file]);
     assert_eq!(
         listed(&input),
         format!("refused,1,7\nrefused,2,9\n{EXAMPLE_LINES}")
@@ -284,17 +274,17 @@ fn a_listing_goes_on_after_a_refused_interval() {
 #[test]
 fn a_listing_stops_after_a_refused_opening() {
     let file = listing::file(1_000).bytes();
-    assert_eq!(listed(&stream(&[&[], &file])), "refused,0,1\n");
+    assert_eq!(listed(&stream_of(&[&[], &file])), "refused,0,1\n");
     let zero = Opening::new(0, DAYS, &[11]).bytes();
-    assert_eq!(listed(&stream(&[&zero, &file])), "refused,0,2\n");
+    assert_eq!(listed(&stream_of(&[&zero, &file])), "refused,0,2\n");
     let falling = Opening::new(NET_CONE, DAYS, &[12, 11]).bytes();
-    assert_eq!(listed(&stream(&[&falling, &file])), "refused,0,4\n");
+    assert_eq!(listed(&stream_of(&[&falling, &file])), "refused,0,4\n");
 }
 
 #[test]
 fn a_listing_stops_after_a_length_over_the_limit() {
-    let opening = stream(&[&listing::opening().bytes()]);
-    let file = stream(&[&listing::file(1_000).bytes()]);
+    let opening = stream_of(&[&listing::opening().bytes()]);
+    let file = stream_of(&[&listing::file(1_000).bytes()]);
     for (length, line) in [(4_096u32, "cut,0\n"), (4_097, "refused,0,1\n")] {
         let input = [&length.to_le_bytes()[..], &[1; 50]].concat();
         assert_eq!(listed(&input), line);
@@ -305,7 +295,7 @@ fn a_listing_stops_after_a_length_over_the_limit() {
     }
     let mut longest = listing::file(1_000);
     longest.length = 49_152;
-    let input = [&opening[..], &stream(&[&longest.bytes()])].concat();
+    let input = [&opening[..], &stream_of(&[&longest.bytes()])].concat();
     assert_eq!(listed(&input), EXAMPLE_LINES);
 }
 

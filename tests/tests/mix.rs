@@ -2,8 +2,8 @@
 
 use npa_tests::layout::{long_at, word_at};
 use npa_tests::random::{
-    long_open, long_settle, open_call, settle_call, stream, OpenCall, Rng, RunningYear, SettleCall,
-    Size, FULL, MIDDLE, SMALL,
+    first_made, long_open, long_settle, open_call, settle_call, stream, OpenCall, Rng, RunningYear,
+    SettleCall, Size, FULL, MIDDLE, SMALL,
 };
 use npa_tests::reference::{npalist, open, settle, HEADING};
 use std::collections::BTreeMap;
@@ -188,13 +188,7 @@ fn streams_are_listed_to_some_end() {
 }
 
 #[test]
-#[ignore = "a long run"]
-fn many_random_calls() {
-    for (size, calls) in [(SMALL, 200_000), (MIDDLE, 50_000), (FULL, 10_000)] {
-        println!("{:?}", grounds(10, &size, calls));
-    }
-    let mut rng = Rng::new(11);
-    for _ in 0..20_000 {
-        npalist(&stream(&mut rng, &SMALL, 6));
-    }
+#[should_panic(expected = "such a case: none in 1000 attempts")]
+fn attempts_come_to_an_end() {
+    first_made("such a case", || None::<u32>);
 }

@@ -1,4 +1,5 @@
-//! Running a program: with `cat`, which must give back what it gets, and `yes`, which does not end.
+//! Running a program: with `cat`, which must give back what it gets, `yes`, which does not end, and `sh`, which
+//! does what it reads.
 
 use npa_tests::program::{Closed, Input, Output, Program, Unread};
 use npa_tests::random::Rng;
@@ -45,12 +46,24 @@ fn a_closed_output_has_the_first_bytes() {
 
 #[test]
 fn a_program_that_does_not_end_is_reported() {
-    let patience = Duration::from_millis(200);
+    let impatient = |path| {
+        let mut program = program(path);
+        program.patience = Duration::from_millis(200);
+        program
+    };
     let does_not_end = Err("it did not end in 200ms".to_string());
-    let mut cat = program("cat");
-    cat.patience = patience;
+    let cat = impatient("cat");
     assert_eq!(cat.run(b"", Input::Open, Output::Pipe), does_not_end);
-    let mut yes = program("yes");
-    yes.patience = patience;
+    let yes = impatient("yes");
     assert_eq!(yes.run(b"", Input::File, Output::Pipe), does_not_end);
+    let silent = impatient("sh");
+    for closed in [
+        Closed::Reader(1),
+        Closed::ReaderIgnored(1),
+        Closed::Nothing,
+        Closed::Full,
+    ] {
+        let written = silent.run_closed(b"exec sleep 10", closed);
+        assert_eq!(written, does_not_end, "{closed:?}");
+    }
 }

@@ -3,7 +3,8 @@
 //! at the end and at the start of their pages.
 
 use crate::guard::{watch, Guarded, Lent, Side};
-use npa_tests::outcome::shown;
+use npa_tests::layout::hex;
+use npa_tests::outcome::{seed_and_count, shown};
 use npa_tests::random::Rng;
 use std::array;
 use std::collections::BTreeMap;
@@ -58,11 +59,6 @@ impl fmt::Display for Place {
     }
 }
 
-/// The random numbers of a case or a year.
-pub fn numbers(seed: u64, number: u64) -> Rng {
-    Rng::new(Rng::new(seed).draw().wrapping_add(number))
-}
-
 /// What a call answers, and the bytes it leaves in the buffers to write.
 struct Outcome<const W: usize> {
     answer: u32,
@@ -107,11 +103,6 @@ impl<const W: usize> Pair<W> {
     }
 }
 
-/// Two digits for each byte.
-fn hex(bytes: &[u8]) -> String {
-    bytes.iter().map(|byte| format!("{byte:02x}")).collect()
-}
-
 /// A function with guarded buffers for its calls.
 pub struct Bench<const W: usize> {
     pair: Pair<W>,
@@ -137,7 +128,7 @@ impl<const W: usize> Bench<W> {
         for number in 0..fixed.len() as u64 + count {
             let call = match fixed.next() {
                 Some(call) => call,
-                None => (calls.random)(&mut numbers(seed, number), number),
+                None => (calls.random)(&mut Rng::of(seed, number), number),
             };
             let year = None;
             self.compare(&call, Place { seed, year, number })?;
@@ -192,20 +183,10 @@ impl<const W: usize> Bench<W> {
     }
 }
 
-/// The seed and the number of random calls, from `[SEED [N]]`.
-fn arguments(count: u64) -> Result<(u64, u64), String> {
-    let numbers: Result<Vec<u64>, _> = env::args().skip(1).map(|word| word.parse()).collect();
-    match numbers.as_deref() {
-        Ok([]) => Ok((1, count)),
-        Ok([seed]) => Ok((*seed, count)),
-        Ok([seed, count]) => Ok((*seed, *count)),
-        _ => Err("usage: [SEED [N]], both numbers".to_string()),
-    }
-}
-
 /// A program that runs on a seed and a number of random calls, `count` unless one is given.
 pub fn program(count: u64, run: fn(u64, u64) -> Result<String, String>) -> ExitCode {
-    shown(arguments(count).and_then(|(seed, count)| run(seed, count)))
+    let words: Vec<String> = env::args().skip(1).collect();
+    shown(seed_and_count(&words, count).and_then(|(seed, count)| run(seed, count)))
 }
 
 #[cfg(test)]

@@ -4,7 +4,8 @@ use crate::compare::{Call, Calls, Pair};
 use crate::npa;
 use npa_tests::layout::Opening;
 use npa_tests::random::{
-    flip, long_open, open_call_for, valid_open, OpenCall, OpenCase, Rng, FULL, MIDDLE, SMALL,
+    flip, long_open, open_call_for, rising, valid_open, OpenCall, OpenCase, Rng, FULL, MIDDLE,
+    SMALL,
 };
 use npa_tests::reference;
 
@@ -46,11 +47,6 @@ fn fixed(rng: &mut Rng) -> Vec<Call<1>> {
 /// The ledger bytes of so many ids.
 fn needed(ids: usize) -> usize {
     64 + 32 * ids
-}
-
-/// So many ids.
-fn rising(count: usize) -> Vec<u32> {
-    (1..=count as u32).map(|index| 7 * index).collect()
 }
 
 /// An opening to accept, if the ids are; all just long enough.
@@ -286,21 +282,15 @@ fn any_words(rng: &mut Rng) -> OpenCall {
     ];
     for (word, bounds) in case.opening.words.iter_mut().zip(bounds) {
         if rng.one_in(4) {
-            *word = near(rng, bounds);
+            *word = rng.near(bounds);
         }
     }
     let index = rng.index(count);
     if rng.one_in(4) {
-        case.opening.ids[index] = near(rng, &[0, 7 * index as u32, 7 * count as u32]);
+        case.opening.ids[index] = rng.near(&[0, 7 * index as u32, 7 * count as u32]);
     }
     case.ledger_length = needed(count) - 2 + rng.pick(&[0, 1, 2, 2, 2, 3, 40]);
     case.call(rng)
-}
-
-/// One of the bounds, or up to 2 off.
-fn near(rng: &mut Rng, bounds: &[u32]) -> u32 {
-    let off = rng.between(-2, 2) as u32;
-    rng.pick(bounds).wrapping_add(off)
 }
 
 #[cfg(test)]

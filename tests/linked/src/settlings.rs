@@ -12,8 +12,8 @@ use crate::npa;
 use npa_tests::layout::{put_words, IntervalFile, Ledger, Row};
 use npa_tests::listing::{self, DAYS, IDS, NET_CONE};
 use npa_tests::random::{
-    cut, flip, long_settle, scramble, settle_call_for, valid_settle, Rng, SettleCall, SettleCase,
-    Size, FULL, MIDDLE, SMALL,
+    cut, flip, long_settle, rising, scramble, settle_call_for, valid_settle, Rng, SettleCall,
+    SettleCase, Size, FULL, MIDDLE, SMALL,
 };
 use npa_tests::reference;
 
@@ -68,11 +68,6 @@ fn settling_of(ids: &[u32], file: IntervalFile) -> SettleCase {
 /// The settling of document 01's listing.
 fn listing() -> SettleCase {
     settling_of(&IDS, listing::file(1_000))
-}
-
-/// So many ids.
-fn rising(count: usize) -> Vec<u32> {
-    (1..=count as u32).map(|index| 7 * index).collect()
 }
 
 /// A demand resource that is 40 kW short.
@@ -192,7 +187,7 @@ fn any_words(rng: &mut Rng) -> SettleCall {
         (9, &[40, 264, end]),
     ] {
         if rng.one_in(12) {
-            case.file.head[word] = near(rng, bounds);
+            case.file.head[word] = rng.near(bounds);
         }
     }
     case.ledger.words[3] = rng.pick(&[0, 999, 1_000, 1_000, 1_001]);
@@ -202,16 +197,10 @@ fn any_words(rng: &mut Rng) -> SettleCall {
     let bounds = [0, 1, 2, 4, 10, kw, 0u32.wrapping_sub(kw), 1_000_000, 3_000];
     for _ in 0..rng.below(4) {
         let at = 40 + 4 * rng.index((call.file.len() - 40) / 4);
-        let word = near(rng, &bounds);
+        let word = rng.near(&bounds);
         put_words(&mut call.file, at, &[word]);
     }
     call
-}
-
-/// One of the bounds, or up to 2 off.
-fn near(rng: &mut Rng, bounds: &[u32]) -> u32 {
-    let off = rng.between(-2, 2) as u32;
-    rng.pick(bounds).wrapping_add(off)
 }
 
 /// The reference's answer.

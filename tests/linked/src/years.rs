@@ -1,7 +1,7 @@
 //! Years of calls: opened and settled by the module, each call held to the
 //! reference, and the sums of the year to the results that the module leaves.
 
-use crate::compare::{numbers, Bench, Call, Place};
+use crate::compare::{Bench, Call, Place};
 use crate::openings;
 use npa_tests::random::{Rng, RunningYear, Size, FULL, MIDDLE, SMALL};
 use npa_tests::sums::{Accepted, Sums};
@@ -26,7 +26,7 @@ pub fn compare(settling: &mut Bench<2>, seed: u64, count: u64) -> Result<Years, 
             year: Some(seen.years),
             number,
         };
-        let mut rng = numbers(!seed, seen.years);
+        let mut rng = Rng::of(!seed, seen.years);
         let (size, calls) = some_length(&mut rng);
         let mut year = RunningYear::open(&mut rng, &size);
         let mut sums = open(&mut opening, &year, place(0))?;

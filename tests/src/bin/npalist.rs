@@ -1,7 +1,8 @@
 //! `npalist BINARY [SEED [N]]` runs the program npalist on fixed streams and N random ones, and holds every listing
 //! to the reference's, byte for byte.
 
-use npa_tests::outcome::shown;
+use npa_tests::layout::hex;
+use npa_tests::outcome::{seed_and_count, shown};
 use npa_tests::program::{Closed, Input, Output, Program, Unread};
 use npa_tests::random::Rng;
 use npa_tests::reference::{npalist, HEADING};
@@ -52,8 +53,7 @@ fn difference(is: &[u8], must_be: &[u8]) -> Option<String> {
 
 /// What is said of a case that goes wrong.
 fn report(case: &Case, how: &str, what: &str) -> String {
-    let bytes = case.stream.iter().take(2_000);
-    let digits: String = bytes.map(|byte| format!("{byte:02x}")).collect();
+    let digits = hex(case.stream.iter().take(2_000));
     let more = if case.stream.len() > 2_000 { ".." } else { "" };
     let length = case.stream.len();
     format!(
@@ -203,7 +203,7 @@ impl Held {
 
     fn random(&mut self, seed: u64, count: u64) -> Result<(), String> {
         for number in 0..count {
-            let mut rng = Rng::new(Rng::new(seed).draw().wrapping_add(number));
+            let mut rng = Rng::of(seed, number);
             let mut case = streams::random_stream(&mut rng, number);
             case.name += &format!(" of seed {seed}");
             let input = match number % 8 {
@@ -256,18 +256,11 @@ fn run(binary: &str, seed: u64, count: u64) -> Result<String, String> {
 }
 
 fn main() -> ExitCode {
-    let arguments: Vec<String> = env::args().skip(1).collect();
-    let number = |at: usize, usual: u64| match arguments.get(at) {
-        Some(text) => text
-            .parse()
-            .map_err(|_| format!("`{text}` is not a number")),
-        None => Ok(usual),
-    };
-    let outcome = match arguments.first() {
-        Some(binary) if arguments.len() <= 3 => {
-            number(1, 1).and_then(|seed| run(binary, seed, number(2, 2_000)?))
+    let words: Vec<String> = env::args().skip(1).collect();
+    shown(match &words[..] {
+        [binary, numbers @ ..] => {
+            seed_and_count(numbers, 2_000).and_then(|(seed, count)| run(binary, seed, count))
         }
-        _ => Err("usage: npalist BINARY [SEED [N]]".to_string()),
-    };
-    shown(outcome)
+        [] => Err("usage: npalist BINARY [SEED [N]]".to_string()),
+    })
 }

@@ -2,6 +2,7 @@
 
 use npa_tests::outcome::shown;
 use npa_tests::program::Program;
+use npa_tests::random::FULL;
 use npa_tests::reference::npalist;
 use npa_tests::streams::full_intervals;
 use std::env;
@@ -10,13 +11,13 @@ use std::process::ExitCode;
 use std::time::{Duration, Instant};
 
 const FILES: u32 = 1_000;
-const ROWS: u32 = 512;
+const ROWS: usize = FULL.ids;
 const ROUNDS: usize = 3;
 
 /// One of the two lines.
 fn timed(name: &str, time: Duration) -> String {
     let all = time.as_secs_f64();
-    let rows = f64::from(FILES * ROWS) / all;
+    let rows = f64::from(FILES) * ROWS as f64 / all;
     format!("{name}: {all:.3} s, {rows:.0} rows a second")
 }
 

@@ -1,6 +1,7 @@
 //! `theorems SEED N DIR` writes N small calls as theorems about the definitions
 //! into DIR: each says that a call gives what the reference gives.
 
+use npa_tests::layout::hex;
 use npa_tests::outcome::shown;
 use npa_tests::small::{cases, Case};
 use std::fmt::Write as _;
@@ -25,11 +26,7 @@ fn bytes(of: &[u8]) -> String {
     if of.is_empty() {
         return "[]".to_string();
     }
-    let mut text = format!("(bytesOf {} 0x", of.len());
-    for byte in of.iter().rev() {
-        let _ = write!(text, "{byte:02x}");
-    }
-    text + ")"
+    format!("(bytesOf {} 0x{})", of.len(), hex(of.iter().rev()))
 }
 
 /// What a case says of the definitions.

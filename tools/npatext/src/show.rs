@@ -2,7 +2,7 @@
 
 use crate::make::{end_of, make_under, Terms};
 use crate::names::{Sign, HEADER_BYTES, KINDS, OPENING_BYTES, POINT_BYTES, ROW_BYTES, ROW_WORDS};
-use npa_tests::layout::word_at;
+use npa_tests::layout::{hex, word_at};
 
 /// The longest blocks that npalist reads.
 const OPENING_MOST: usize = 4096;
@@ -72,11 +72,6 @@ fn differences<'a>(said: &[u8], block: &'a [u8]) -> Vec<(usize, &'a [u8])> {
     }
     let part = |(from, to): (usize, usize)| (from, &block[from..to]);
     stretches.into_iter().map(part).collect()
-}
-
-/// Two digits for each byte.
-fn hex(bytes: &[u8]) -> String {
-    bytes.iter().map(|byte| format!("{byte:02x}")).collect()
 }
 
 /// Adds a field unless it has the value that it has when left out.

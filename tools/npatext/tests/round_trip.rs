@@ -1,8 +1,8 @@
 //! Text to stream to text to stream gives the same bytes and the same text.
 
 use npa_tests::layout::{IntervalFile, Opening, Row};
-use npa_tests::listing;
 use npa_tests::random::{self, push_block, Rng, Size, FULL, MIDDLE, SMALL};
+use npa_tests::streams::{document, stream_of};
 use npatext::{make, show};
 
 /// Shows a stream and makes it again.
@@ -11,14 +11,6 @@ fn hold(stream: &[u8], name: &str) {
     let again = make(&text).unwrap_or_else(|fault| panic!("{name}: {fault}\n{text}"));
     assert!(again == stream, "{name}\n{text}");
     assert_eq!(show(&again), text, "{name}");
-}
-
-/// The stream of document 01's listing.
-fn document() -> Vec<u8> {
-    let mut stream = Vec::new();
-    push_block(&mut stream, &listing::opening().bytes());
-    push_block(&mut stream, &listing::file(1000).bytes());
-    stream
 }
 
 #[test]
@@ -95,10 +87,8 @@ fn fields_are_the_words_of_the_layouts() {
         row 20 kind=21 committed=22 owned=23 metered=-24 adjustment=-25 planned=26 \
             forced=27 maximum=28 minimum=29 online=30 lmp=-31 curve=-32:33,34:35
         row 36 kind=prd first=37 points=38";
-    let mut stream = Vec::new();
     let mut opening = Opening::new(1, 2, &[3, 5, 6, 7]);
     opening.words[0] = 9;
-    push_block(&mut stream, &opening.bytes());
     let row = Row {
         id: 20,
         kind: 21,
@@ -127,7 +117,7 @@ fn fields_are_the_words_of_the_layouts() {
     file.head[0] = 11;
     file.head[4] = 14;
     file.head[5] = -15i32 as u32;
-    push_block(&mut stream, &file.bytes());
+    let stream = stream_of(&[&opening.bytes(), &file.bytes()]);
     assert_eq!(make(text).unwrap(), stream);
 }
 

@@ -1,8 +1,7 @@
 //! The samples: every stream is made of its text, and every listing is the reference's.
 
-use npa_tests::listing;
-use npa_tests::random::push_block;
 use npa_tests::reference::npalist;
+use npa_tests::streams::document;
 use npatext::{make, show};
 use std::collections::{BTreeMap, BTreeSet};
 use std::fs;
@@ -71,10 +70,7 @@ fn listings_are_the_references() {
 /// Input and output stand in document 01.
 #[test]
 fn document_is_document_01() {
-    let mut stream = Vec::new();
-    push_block(&mut stream, &listing::opening().bytes());
-    push_block(&mut stream, &listing::file(1000).bytes());
-    assert_eq!(file("document", "stream"), stream);
+    assert_eq!(file("document", "stream"), document());
     let printed = "\
 interval,id,expected,actual,outage,economic,shortfall,bonus,charge,credit
 1000,11,86667,60000,10000,26667,0,0,0,0

@@ -2,20 +2,20 @@
 
 use npa_linked::npa;
 use npa_tests::layout::Ledger;
-use npa_tests::random::{Rng, World};
+use npa_tests::random::{World, FULL};
 use npa_tests::reference;
+use npa_tests::streams::{full_files, ROW_POINTS};
 use std::time::{Duration, Instant};
 
 const FILES: u32 = 1_000;
-const ROWS: u32 = 512;
-const ROW_POINTS: usize = 4;
+const ROWS: usize = FULL.ids;
 const ROUNDS: usize = 3;
 
 type Settle = fn(&mut [u8], &[u8], &mut [u8]) -> u32;
 
 /// The time for settling all files into a ledger, which stays as they leave it, and the last result.
 fn timed(settle: Settle, files: &[Vec<u8>], ledger: &mut [u8]) -> (Duration, Vec<u8>) {
-    let mut result = vec![0; 64 + 64 * ROWS as usize];
+    let mut result = vec![0; 64 + 64 * ROWS];
     let start = Instant::now();
     for file in files {
         let answer = settle(ledger, file, &mut result);
@@ -32,17 +32,8 @@ fn print(name: &str, time: Duration) {
 }
 
 fn main() {
-    let world = World {
-        net_cone: 30_000,
-        days: 365,
-        ids: (1..=ROWS).map(|index| 7 * index).collect(),
-        scale: 200_000,
-        short: false,
-    };
-    let mut rng = Rng::new(1);
-    let files: Vec<Vec<u8>> = (0..FILES)
-        .map(|interval| world.full_file(&mut rng, interval, ROW_POINTS).bytes())
-        .collect();
+    let world = World::full();
+    let files = full_files(FILES);
     let opened = Ledger::new(world.net_cone, world.days, &world.ids).bytes();
     let (mut module, mut separate) = (Duration::MAX, Duration::MAX);
     for _ in 0..ROUNDS {

@@ -1,6 +1,6 @@
 //! Schedules: curves of 0 to 10 points, and for each an LMP at, before and behind every point.
 
-use super::{rising, settling_of};
+use super::settling_of;
 use npa_tests::layout::{point, IntervalFile, Row};
 use npa_tests::random::SettleCase;
 
@@ -99,7 +99,7 @@ fn all_rows(points: &[(i32, u32)], range: (u32, u32)) -> SettleCase {
             }
         }
     }
-    let ids = rising(rows.len());
+    let ids: Vec<u32> = rows.iter().map(|row| row.id).collect();
     let words = rows.iter().map(Row::words).collect();
     let points = points
         .iter()

@@ -1,9 +1,9 @@
 //! Sums and products as large as they get.
 
 use super::ledger_bounds::{at_terms, set_carried, LARGEST};
-use super::{needed, rising, with};
+use super::{needed, with};
 use npa_tests::layout::{point, Ledger, Row};
-use npa_tests::random::{SettleCase, POOL_MOST};
+use npa_tests::random::{rising, SettleCase, POOL_MOST};
 
 const KW_MOST: u32 = 4_000_000;
 

@@ -1,8 +1,8 @@
 //! Grounds 7, 8, 9, 11 and 15: files and result buffers on both sides of every bound.
 
-use super::{listing, needed, plain, rising, short_row, with};
+use super::{listing, needed, plain, short_row, with};
 use npa_tests::layout::point;
-use npa_tests::random::SettleCase;
+use npa_tests::random::{rising, SettleCase};
 
 const TOP: u32 = 1 << 31;
 
