@@ -36,12 +36,12 @@ fn price(points: &[u8], i: usize) -> i64
 }
 
 // The kW of point i.
-fn kw(points: &[u8], i: usize) -> u64
+fn kw(points: &[u8], i: usize) -> Kilowatts
     requires { ⌜ 8 * i + 8 ≤ length (now points) ⌝ }
-    ensures { λ r. ⌜ r ≡ pointOf (drop (pointBytes * i) (now (points .entry))) .kw ⌝ }
-    ensures { λ r. ⌜ r < 2 ^ 32 ⌝ }
+    ensures { λ r. ⌜ r .0 ≡ pointOf (drop (pointBytes * i) (now (points .entry))) .kw ⌝ }
+    ensures { λ r. ⌜ r .0 < 2 ^ 32 ⌝ }
 {
-    word(points, POINT_WORDS * i + KW)
+    Kilowatts(word(points, POINT_WORDS * i + KW))
 }
 
 // Whether point i is priced at or below the LMP.
@@ -95,42 +95,42 @@ fn gap(a: i64, b: i64) -> u64
 }
 
 // From a base on, a part of the whole way along a rise, rounded down.
-fn along(base: u64, part: u64, rise: u64, whole: u64) -> u64
-    requires { ⌜ base < 2 ^ 32 ⌝ }
+fn along(base: Kilowatts, part: u64, rise: Kilowatts, whole: u64) -> Kilowatts
+    requires { ⌜ base .0 < 2 ^ 32 ⌝ }
     requires { ⌜ part < whole ⌝ }
-    requires { ⌜ rise < 2 ^ 32 ⌝ }
+    requires { ⌜ rise .0 < 2 ^ 32 ⌝ }
     requires { ⌜ whole ≤ 2 ^ 32 ⌝ }
-    ensures { λ r. ⌜ r ≡ base + part * rise / whole ⌝ }
-    ensures { λ r. ⌜ r < 2 ^ 33 ⌝ }
+    ensures { λ r. ⌜ r .0 ≡ base .0 + part * rise .0 / whole ⌝ }
+    ensures { λ r. ⌜ r .0 < 2 ^ 33 ⌝ }
 {
-    base + part * rise / whole
+    Kilowatts(base.0 + part * rise.0 / whole)
 }
 
 // On from point i, the last one reached, towards the next in proportion to price.
 // The next is priced above the LMP, so that the divisor is not 0.
-fn towards(points: &[u8], i: usize, lmp: i64) -> u64
+fn towards(points: &[u8], i: usize, lmp: i64) -> Kilowatts
     requires { ⌜ 8 * i + 16 ≤ length (now points) ⌝ }
     requires { ⌜ leZ (pointOf (drop (pointBytes * i) (now points)) .price) lmp ≡ true ⌝ }
     requires { ⌜ leZ (pointOf (drop (pointBytes * (i + 1)) (now points)) .price) lmp ≡ false ⌝ }
-    ensures { λ r. ⌜ r ≡ alongCurve lmp (pointOf (drop (pointBytes * i) (now (points .entry))) ∷ pointOf (drop (pointBytes * (i + 1)) (now (points .entry))) ∷ []) ⌝ }
-    ensures { λ r. ⌜ r < 2 ^ 33 ⌝ }
+    ensures { λ r. ⌜ r .0 ≡ alongCurve lmp (pointOf (drop (pointBytes * i) (now (points .entry))) ∷ pointOf (drop (pointBytes * (i + 1)) (now (points .entry))) ∷ []) ⌝ }
+    ensures { λ r. ⌜ r .0 < 2 ^ 33 ⌝ }
 {
     let low = price(points, i);
     let high = price(points, i + 1);
     let from = kw(points, i);
-    let more = excess(kw(points, i + 1), from);
+    let more = Kilowatts(excess(kw(points, i + 1).0, from.0));
     along(from, gap(lmp, low), more, gap(high, low))
 }
 
 // The kW on the curve at the LMP, 0 if no point is reached.
-fn on_curve(points: &[u8], n: usize, lmp: i64) -> u64
+fn on_curve(points: &[u8], n: usize, lmp: i64) -> Kilowatts
     requires { ⌜ 8 * n ≤ length (now points) ⌝ }
-    ensures { λ r. ⌜ r ≡ alongCurve lmp (fromLastReached lmp (entries pointBytes pointOf n (now (points .entry)))) ⌝ }
-    ensures { λ r. ⌜ r < 2 ^ 33 ⌝ }
+    ensures { λ r. ⌜ r .0 ≡ alongCurve lmp (fromLastReached lmp (entries pointBytes pointOf n (now (points .entry)))) ⌝ }
+    ensures { λ r. ⌜ r .0 < 2 ^ 33 ⌝ }
 {
     let rest = points_left(points, n, lmp);
     if rest == 0 {
-        return 0;
+        return Kilowatts(0);
     }
     if rest == 1 {
         return kw(points, n - rest);
@@ -138,41 +138,41 @@ fn on_curve(points: &[u8], n: usize, lmp: i64) -> u64
     towards(points, n - rest, lmp)
 }
 
-// The kW of the last point priced at or below the LMP, 0 if there is none.
-fn last_kw(points: &[u8], n: usize, lmp: i64) -> u64
+// The kW of the last point at or below the LMP, 0 if there is none.
+fn last_kw(points: &[u8], n: usize, lmp: i64) -> Kilowatts
     requires { ⌜ 8 * n ≤ length (now points) ⌝ }
-    ensures { λ r. ⌜ r ≡ firstKw (fromLastReached lmp (entries pointBytes pointOf n (now (points .entry)))) ⌝ }
+    ensures { λ r. ⌜ r .0 ≡ firstKw (fromLastReached lmp (entries pointBytes pointOf n (now (points .entry)))) ⌝ }
 {
     let rest = points_left(points, n, lmp);
     if rest == 0 {
-        return 0;
+        return Kilowatts(0);
     }
     kw(points, n - rest)
 }
 
 // The economic minimum if online, else 0.
-fn minimum_online(row: &[u8]) -> u64
+fn minimum_online(row: &[u8]) -> Kilowatts
     requires { ⌜ 56 ≤ length (now row) ⌝ }
-    ensures { λ r. ⌜ r ≡ minimumOnline (rowAt (now (row .entry)) []) ⌝ }
-    ensures { λ r. ⌜ r < 2 ^ 32 ⌝ }
+    ensures { λ r. ⌜ r .0 ≡ minimumOnline (rowAt (now (row .entry)) []) ⌝ }
+    ensures { λ r. ⌜ r .0 < 2 ^ 32 ⌝ }
 {
     if word(row, ONLINE) == 1 {
-        return word(row, MINIMUM);
+        return Kilowatts(word(row, MINIMUM));
     }
-    0
+    Kilowatts(0)
 }
 
 // Raised to a least and cut to a most.
-fn limited(x: u64, least: u64, most: u64) -> u64
-    ensures { λ r. ⌜ r ≡ min (max x least) most ⌝ }
+fn limited(x: Kilowatts, least: Kilowatts, most: Kilowatts) -> Kilowatts
+    ensures { λ r. ⌜ r .0 ≡ min (max (x .0) (least .0)) (most .0) ⌝ }
 {
-    if most <= x {
+    if most.0 <= x.0 {
         return most;
     }
-    if most <= least {
+    if most.0 <= least.0 {
         return most;
     }
-    if x <= least {
+    if x.0 <= least.0 {
         return least;
     }
     x
@@ -192,17 +192,16 @@ pub fn scheduled(row: &[u8], points: &[u8]) -> Kilowatts
     let lmp = signed_word(row, LMP);
     let least = minimum_online(row);
     if below(points, 0, lmp) {
-        return Kilowatts(least);
+        return least;
     }
-    let most = word(row, MAXIMUM);
+    let most = Kilowatts(word(row, MAXIMUM));
     if above(points, n - 1, lmp) {
-        return Kilowatts(most);
+        return most;
     }
-    let kw = on_curve(points, n, lmp);
-    Kilowatts(limited(kw, least, most))
+    limited(on_curve(points, n, lmp), least, most)
 }
 
-// Considered: every row of a kind but a PRD row whose last point priced at or below the LMP has 0 kW, or that has no such point.
+// Considered: every row of a kind; of PRD rows only one whose last point at or below the LMP is above 0 kW.
 pub fn considered(row: &[u8], points: &[u8]) -> bool
     requires { ⌜ 56 ≤ length (now row) ⌝ }
     requires { ⌜ 8 * word32 (now row) 13 ≤ length (now points) ⌝ }
@@ -214,7 +213,7 @@ pub fn considered(row: &[u8], points: &[u8]) -> bool
         0 => true,
         1 => true,
         2 => true,
-        3 => 0 < last_kw(points, n, lmp),
+        3 => 0 < last_kw(points, n, lmp).0,
         4 => true,
         _ => false,
     }

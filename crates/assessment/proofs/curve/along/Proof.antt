@@ -6,17 +6,17 @@ use Rattle.assessment.proofs.CurveNumbers.{share-le, product-le}
 use Rattle.assessment.proofs.curve.along.Statement.{statement}
 use Rattle.assessment.proofs.curve.along.Tie as tie
 
-mul-result : tie.Need-mul-result
-mul-result c = omega (arith, product-le (c .args .part) (c .args .rise) (omega arith) (omega arith))
+mul-t5 : tie.Need-mul-t5
+mul-t5 c = let a = c .before .args in omega (arith, product-le (a .part) (a .rise .0) (omega arith) (omega arith))
 
-div-result : tie.Need-div-result
-div-result c = search needs
+div-t6 : tie.Need-div-t6
+div-t6 c = search needs
 
-add-result : tie.Need-add-result
-add-result c = omega (arith, share-le (c .args .rise) (c .pre .1 .0))
+add-t7 : tie.Need-add-t7
+add-t7 c = let start = c .before .before in omega (arith, share-le (start .args .rise .0) (start .pre .1 .0))
 
 returns : tie.Need-returns
-returns c = (refl, omega (arith, share-le (c .args .rise) (c .pre .1 .0)))
+returns c = let start = c .before .before in (refl, omega (arith, share-le (start .args .rise .0) (start .pre .1 .0)))
 
 pub along-spec : {M : Type 1} → statement M
-along-spec = tie.close (tie.spec mul-result div-result add-result returns)
+along-spec = tie.close (tie.spec mul-t5 div-t6 add-t7 returns)

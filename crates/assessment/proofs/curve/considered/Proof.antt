@@ -53,12 +53,13 @@ returns-3 c = considered-as (row (c .before .before .before)) 2 efficiency (kind
 returns-4 : tie.Need-returns-4
 unfolding rowAt kindOf consideredAs
 returns-4 c =
-    let k = c .before .before in
+    let m = c .before .before in
+    let k = m .before in
     let w = k .before .before in
     let b = w .before .before .before .args .points .now in
     let by-lmp = ap (λ (z : ℤ). firstKw (fromLastReached z (entries 8 pointOf (w .word .result) b))) (lmp-is (k .before)) in
     let by-count = ap (λ n. firstKw (fromLastReached (row w .lmp) (entries 8 pointOf n b))) (w .word .ensures .0) in
-    ap (ltb 0) (c .last-kw .ensures ∙ by-lmp ∙ by-count) ∙ considered-as (row w) 3 responsive (kind-is k ∙ c .before .match .keys4) refl
+    ap (ltb 0) (c .before .last-kw .ensures ∙ by-lmp ∙ by-count) ∙ considered-as (row w) 3 responsive (kind-is k ∙ m .match .keys4) refl
 
 returns-5 : tie.Need-returns-5
 unfolding kindOf consideredAs
