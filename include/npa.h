@@ -80,12 +80,13 @@ uint32_t npa_open(const uint8_t *block, size_t block_len, uint8_t *ledger, size_
  *         later intervals are accepted: the same file again is NPA_REFUSED_PAST.
  * file    is read. It may be any bytes; whatever is not as laid out is refused.
  * result  needs NPA_RESULT_BYTES(rows) bytes; what they held before does not matter, and NPA_RESULT_MOST bytes are
- *         enough for any file. On NPA_OK they hold 8 words for the interval (ratio, charges, credits, carried,
- *         total bonus, numerator, denominator, rows), then 8 for each row in file order (expected, actual, outage,
- *         economic, shortfall, bonus, charge, credit). A word has 64 bits, lowest byte first.
+ *         enough for any file. On NPA_OK they hold words of 64 bits, lowest byte first. The interval's are
+ *         the ratio, its charges, credits and cents carried, the total bonus, numerator and denominator of the
+ *         ratio, and how many rows there are; behind them come each row's, in the file's order: the kW expected,
+ *         actual, outage, economic, shortfall and bonus, and the cents charged and credited.
  *
  * The caller keeps ledger and result together: the module can give neither a second time. After a refusal both
- * are as they were, and the ledger takes the next file.
+ * are as they were; unless it is NPA_REFUSED_LEDGER, the ledger takes the next file.
  */
 uint32_t npa_settle(uint8_t *ledger, size_t ledger_len, const uint8_t *file, size_t file_len, uint8_t *result,
                     size_t result_len);

@@ -4,7 +4,6 @@ use mathlib.Core.Bool.{Bool, true, false, cond}
 use mathlib.Core.List.{List, [], _∷_}
 use mathlib.Core.Path.{_≡_, refl, sym, ap, _∙_}
 use native.Mathlib.Omega.{arith}
-use borrow.Author.Tests.{ne-eqb}
 use lib.ListN.{length, drop, getD}
 use lib.Seq.{drop-drop, drop-length}
 use lib.IntN.{ℤ}
@@ -13,7 +12,9 @@ use Rattle.words.specs.Words.{numberAt, word32, signed, entries}
 use Rattle.words.proofs.Words.{length-entries}
 use Rattle.words.proofs.Access.{numberAt-drop}
 use Rattle.reading.specs.Interval.{Point, Row, Kind, noKind, kindOf, pointOf}
+use Rattle.reading.proofs.Tables.{table-cons}
 use Rattle.assessment.specs.Assessment.{orElse, fromLastReached, alongCurve, lastPrice, minimumOnline, scheduledBy, firstKw, consideredAs, considered}
+use Rattle.assessment.proofs.KindLaws.{kind-none}
 
 -- the words of point i
 pub point-price : (b : List ℕ) (i : ℕ) → signed (word32 b (2 * i + 0)) ≡ pointOf (drop (8 * i) b) .price
@@ -22,6 +23,7 @@ point-price b i =
     let at : 4 * (2 * i + 0) ≡ 8 * i + 0 = omega arith in
     ap (λ k. signed (numberAt 4 b k)) at ∙ ap signed (sym (numberAt-drop 4 (8 * i) b 0))
 
+-- the second word of point i is its kW
 pub point-kw : (b : List ℕ) (i : ℕ) → word32 b (2 * i + 1) ≡ pointOf (drop (8 * i) b) .kw
 unfolding word32 pointOf
 point-kw b i =
@@ -31,13 +33,6 @@ point-kw b i =
 -- the points of a table from point i on
 abbrev pub tableFrom : ℕ → ℕ → List ℕ → List Point
 tableFrom i n b = entries 8 pointOf n (drop (8 * i) b)
-
--- point i, and those after it
-pub table-cons : (i n : ℕ) (b : List ℕ) → tableFrom i (suc n) b ≡ pointOf (drop (8 * i) b) ∷ tableFrom (i + 1) n b
-unfolding entries
-table-cons i n b =
-    let next : 8 * i + 8 ≡ 8 * (i + 1) = omega arith in
-    ap (λ c. pointOf (drop (8 * i) b) ∷ entries 8 pointOf n c) (drop-drop 8 (8 * i) b ∙ ap (λ k. drop k b) next)
 
 -- a table without its first points
 pub table-drop : (i n : ℕ) (b : List ℕ) → drop i (entries 8 pointOf (i + n) b) ≡ tableFrom i n b
@@ -60,6 +55,7 @@ module _ (lmp : ℤ) where
   unfolding fromLastReached orElse
   search-on p ps none e = rw (none, e)
 
+  -- the first is reached and none after it, so the curve from the last one reached on is all of it
   pub search-here : (p : Point) (ps : List Point) → fromLastReached lmp ps ≡ [] → leZ (p .price) lmp ≡ true → fromLastReached lmp (p ∷ ps) ≡ p ∷ ps
   unfolding fromLastReached orElse
   search-here p ps none e = rw (none, e)
@@ -107,6 +103,7 @@ module _ (lmp : ℤ) where
 
   -- the walk down a table of n points: none is reached from point i on
   module _ (n : ℕ) (b : List ℕ) where
+    -- behind all n points none is reached, as none is left
     pub walk-start : fromLastReached lmp (tableFrom n (n - n) b) ≡ []
     unfolding fromLastReached entries
     walk-start = let none : n - n ≡ 0 = omega arith in rw none
@@ -116,7 +113,7 @@ module _ (lmp : ℤ) where
         → fromLastReached lmp (tableFrom j (n - j) b) ≡ []
     walk-on i j before h none e =
         let count : n - j ≡ suc (n - i) = omega arith in
-        rw (count, table-cons j (n - i) b)
+        rw (count, table-cons 8 pointOf (n - i) b j)
         (search-on (pointOf (drop (8 * j) b)) (tableFrom (j + 1) (n - i) b) (ap (λ k. fromLastReached lmp (tableFrom k (n - i) b)) (sym before) ∙ none) e)
 
     -- point j is: it is the last one reached
@@ -127,7 +124,7 @@ module _ (lmp : ℤ) where
         let ps = tableFrom (j + 1) (n - i) b in
         let count : n - j ≡ suc (n - i) = omega arith in
         let all : j + suc (n - i) ≡ n = omega arith in
-        let end : drop j (entries 8 pointOf n b) ≡ p ∷ ps = ap (λ k. drop j (entries 8 pointOf k b)) (sym all) ∙ table-drop j (suc (n - i)) b ∙ table-cons j (n - i) b in
+        let end : drop j (entries 8 pointOf n b) ≡ p ∷ ps = ap (λ k. drop j (entries 8 pointOf k b)) (sym all) ∙ table-drop j (suc (n - i)) b ∙ table-cons 8 pointOf (n - i) b j in
         let here = search-here p ps (ap (λ k. fromLastReached lmp (tableFrom k (n - i) b)) (sym before) ∙ none) e in
         let found = search-end j (entries 8 pointOf n b) p ps (ap (fromLastReached lmp) end ∙ here) in
         count ∙ ap suc (sym (length-entries 8 pointOf (n - i) (drop (8 * (j + 1)) b))) ∙ ap length (sym found)
@@ -156,12 +153,14 @@ module _ (lmp : ℤ) where
     unfolding entries
     left-none z = left-is ∙ ap (λ k. tableFrom (n - rest) k b) z
 
+    -- of m + 1 points left, the last one reached and the m points after it
     left-some : (m : ℕ) → rest ≡ suc m → fromLastReached lmp (entries 8 pointOf n b) ≡ pointOf (drop (8 * (n - rest)) b) ∷ tableFrom (n - rest + 1) m b
-    left-some m e = left-is ∙ ap (λ k. tableFrom (n - rest) k b) e ∙ table-cons (n - rest) m b
+    left-some m e = left-is ∙ ap (λ k. tableFrom (n - rest) k b) e ∙ table-cons 8 pointOf m b (n - rest)
 
+    -- of m + 2 points left, the last one reached, the next one and the m points after them
     left-two : (m : ℕ) → rest ≡ suc (suc m)
         → fromLastReached lmp (entries 8 pointOf n b) ≡ pointOf (drop (8 * (n - rest)) b) ∷ pointOf (drop (8 * (n - rest + 1)) b) ∷ tableFrom (n - rest + 1 + 1) m b
-    left-two m e = left-some (suc m) e ∙ ap (λ l. pointOf (drop (8 * (n - rest)) b) ∷ l) (table-cons (n - rest + 1) m b)
+    left-two m e = left-some (suc m) e ∙ ap (λ l. pointOf (drop (8 * (n - rest)) b) ∷ l) (table-cons 8 pointOf m b (n - rest + 1))
 
     -- the first of them is reached
     pub left-reached : 0 < rest → leZ (pointOf (drop (8 * (n - rest)) b) .price) lmp ≡ true
@@ -183,10 +182,12 @@ module _ (lmp : ℤ) where
     unfolding alongCurve
     along-none z = rw (left-none z)
 
+    -- with one point left, which is the final one, its kW
     pub along-last : rest ≡ 1 → pointOf (drop (8 * (n - rest)) b) .kw ≡ alongCurve lmp (fromLastReached lmp (entries 8 pointOf n b))
     unfolding alongCurve entries
     along-last e = ap (alongCurve lmp) (sym (left-some 0 e))
 
+    -- with more left, the last point reached and the next one decide
     pub along-next : 1 < rest
         → alongCurve lmp (pointOf (drop (8 * (n - rest)) b) ∷ pointOf (drop (8 * (n - rest + 1)) b) ∷ []) ≡ alongCurve lmp (fromLastReached lmp (entries 8 pointOf n b))
     unfolding alongCurve
@@ -197,6 +198,7 @@ module _ (lmp : ℤ) where
     unfolding firstKw
     kw-none z = ap firstKw (sym (left-none z))
 
+    -- with some left, it is the kW of the first of them
     pub kw-some : 0 < rest → pointOf (drop (8 * (n - rest)) b) .kw ≡ firstKw (fromLastReached lmp (entries 8 pointOf n b))
     unfolding firstKw
     kw-some h = let m : rest ≡ suc (rest - 1) = omega arith in ap firstKw (sym (left-some (rest - 1) m))
@@ -225,12 +227,15 @@ scheduled-some (suc m) b r h = let before : suc m - 1 ≡ m = omega arith in rw 
 
 -- the LMP is below the first price, above the last, or neither
 module _ (n : ℕ) (b : List ℕ) (r : Row) (some : 0 < n) where
+  -- with an LMP below the first price, scheduled is the minimum if online, else 0
   pub scheduled-below : ltZ (r .lmp) (pointOf b .price) ≡ true → minimumOnline r ≡ scheduledBy (entries 8 pointOf n b) r
   scheduled-below e = rw (scheduled-some n b r some, e)
 
+  -- with an LMP not below the first price and above the last, scheduled is the emergency maximum
   pub scheduled-above : ltZ (r .lmp) (pointOf b .price) ≡ false → ltZ (pointOf (drop (8 * (n - 1)) b) .price) (r .lmp) ≡ true → r .maximum ≡ scheduledBy (entries 8 pointOf n b) r
   scheduled-above e f = rw (scheduled-some n b r some, e, f)
 
+  -- with an LMP in between: along the curve, raised to the minimum if online, cut to the maximum
   pub scheduled-along : ltZ (r .lmp) (pointOf b .price) ≡ false → ltZ (pointOf (drop (8 * (n - 1)) b) .price) (r .lmp) ≡ false
       → (kw least most : ℕ) → kw ≡ alongCurve (r .lmp) (fromLastReached (r .lmp) (entries 8 pointOf n b)) → least ≡ minimumOnline r → most ≡ r .maximum
       → min (max kw least) most ≡ scheduledBy (entries 8 pointOf n b) r
@@ -241,7 +246,6 @@ pub considered-as : (r : Row) (k : ℕ) (kind : Kind) → r .kind ≡ k → kind
 unfolding considered
 considered-as r k kind e f = ap (λ t. consideredAs t r) (sym (ap kindOf e ∙ f))
 
--- a kind word above 4
+-- a kind word that is none of 0 to 4
 pub no-kind : (k : ℕ) → (k ≡ 0 → ⊥) → (k ≡ 1 → ⊥) → (k ≡ 2 → ⊥) → (k ≡ 3 → ⊥) → (k ≡ 4 → ⊥) → kindOf k ≡ noKind
-unfolding kindOf
-no-kind k h0 h1 h2 h3 h4 = rw (ne-eqb k 0 h0, ne-eqb k 1 h1, ne-eqb k 2 h2, ne-eqb k 3 h3, ne-eqb k 4 h4)
+no-kind k h0 h1 h2 h3 h4 = kind-none k (omega arith)

@@ -30,5 +30,6 @@ module _ (p l q : ℤ) (e : leZ p l ≡ true) (f : leZ q l ≡ false) (hp : mag 
   pub part-lt : natAbs (l -ℤ p) < natAbs (q -ℤ p)
   part-lt = rw (natAbs-diff l p e, natAbs-diff q p (le-over p l q e f)) (gap-lt p l q e f)
 
+  -- the two prices are at most 2^32 apart
   pub whole-le : natAbs (q -ℤ p) ≤ 4294967296
   whole-le = rw (natAbs-diff q p (le-over p l q e f)) (omega (arith, gap-le q p))

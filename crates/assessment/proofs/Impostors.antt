@@ -25,10 +25,12 @@ cutShareAs noKind r = numeratorShareAs noKind r
 pub cutShare : Row → ℕ
 cutShare r = ifConsidered r (cutShareAs (kindOf (r .kind)) r)
 
+-- told by a row of kind 0 that gave more than it was scheduled for
 pub cut-share-told : cutShare (overScheduled 0) ≡ numeratorShare (overScheduled 0) → ⊥
 unfolding cutShare cutShareAs curveA computing
 cut-share-told same = omega (arith, same)
 
+-- told as well by such a row of kind 4
 pub cut-share-told-4 : cutShare (overScheduled 4) ≡ numeratorShare (overScheduled 4) → ⊥
 unfolding cutShare cutShareAs curveA computing
 cut-share-told-4 same = omega (arith, same)
@@ -41,6 +43,7 @@ forcedExcused r expect = min (r .maximum) (min expect (r .owned - r .planned)) -
 abbrev pub forcedOut : Row
 forcedOut = row 0 100000 110000 (pos 50000) 0 30000 110000 20000 1 (pos 3000) curveA
 
+-- told by the row with 30000 kW forced out
 pub forced-excused-told : forcedExcused forcedOut 100000 ≡ economic forcedOut 100000 → ⊥
 unfolding forcedExcused curveA computing
 forced-excused-told same = omega (arith, same)

@@ -2,6 +2,7 @@ pub mod Computing
 pub mod Figures
 pub mod Promises
 pub mod Limits
+pub mod ChargeLaws
 pub mod Shares
 pub mod KindLaws
 pub mod RuleLaws

@@ -19,6 +19,7 @@ div-rises (suc d) {a} {b} h =
 pub rate-rises : (rate divisor : ℕ) {a b : ℕ} → a ≤ b → rate * a / divisor ≤ rate * b / divisor
 rate-rises rate divisor h = div-rises divisor (mul-le-mul-left rate h)
 
+-- the limit rises with the largest commitment
 pub limit-rises : (t : Terms) {a b : ℕ} → a ≤ b → limit t a ≤ limit t b
 unfolding limit
 limit-rises t h = rate-rises (limitFactor * t .netCone * t .days) limitDivisor h
@@ -27,6 +28,7 @@ limit-rises t h = rate-rises (limitFactor * t .netCone * t .days) limitDivisor h
 abbrev pub mostLimit : ℕ
 mostLimit = limitFactor * mostNetCone * leapYear * mostKilowatts / limitDivisor
 
+-- terms within their bounds and at most the most kW give no more than the largest limit
 pub limit-le : (t : Terms) (kw : ℕ) → TermsIn t → kw ≤ mostKilowatts → limit t kw ≤ mostLimit
 unfolding limit
 limit-le t kw i k =

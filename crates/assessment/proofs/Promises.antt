@@ -29,6 +29,7 @@ if-le r x = by (considered r)
 pub if-zero : (r : Row) (x : ℕ) → x ≡ 0 → ifConsidered r x ≡ 0
 if-zero r x e = omega (arith, if-le r x)
 
+-- the part of a whole that a ratio gives is at most the whole
 portion-le : (q : Ratio) (whole : ℕ) → portion q whole ≤ whole
 unfolding portion
 portion-le q whole = by (eqb (q .denominator) 0)
@@ -37,34 +38,42 @@ portion-le q whole = by (eqb (q .denominator) 0)
     by true = omega arith
     by false = omega arith
 
+-- the printed ratio is at most a million millionths
 pub printed-le : (q : Ratio) → printedRatio q ≤ wholeRatio
 unfolding printedRatio
 printed-le q = portion-le q wholeRatio
 
+-- no more is expected of a row than its committed kW
 expected-le : (k : Kind) (q : Ratio) (r : Row) → expectedAs k q r ≤ r .committed
 unfolding expectedAs
 expected-le k q r = each-kind (λ k. expectedAs k q r ≤ r .committed) (portion-le q (r .committed)) (omega arith) (omega arith) (omega arith) (omega arith) (omega arith) k
 
+-- the kW that a bonus is taken from are at most the actual
 bonus-actual-le : (k : Kind) (r : Row) → bonusActualAs k r ≤ actual r
 unfolding bonusActualAs
 bonus-actual-le k r = each-kind (λ k. bonusActualAs k r ≤ actual r) (omega arith) (omega arith) (omega arith) (omega arith) (omega arith) (omega arith) k
 
+-- a bonus is at most what the actual stands above the expected kW
 bonus-le : (r : Row) (e : ℕ) → bonus r e ≤ actual r - e
 unfolding bonus
 bonus-le r e = omega (arith, bonus-actual-le (kindOf (r .kind)) r)
 
+-- a shortfall is at most what the expected kW stand above the actual
 shortfall-le : (r : Row) (e : ℕ) → shortfall r e ≤ e - actual r
 unfolding shortfall
 shortfall-le r e = omega arith
 
+-- an outage is at most the planned kW
 outage-le : (k : Kind) (r : Row) → outageAs k r ≤ r .planned
 unfolding outageAs
 outage-le k r = each-kind (λ k. outageAs k r ≤ r .planned) (omega arith) (omega arith) (omega arith) (omega arith) (omega arith) (omega arith) k
 
+-- the economic kW are at most the expected kW
 economic-le : (k : Kind) (r : Row) (e : ℕ) → economicAs k r e ≤ e
 unfolding economicAs economicRule
 economic-le k r e = each-kind (λ k. economicAs k r e ≤ e) (omega arith) (omega arith) (omega arith) (omega arith) (omega arith) (omega arith) k
 
+-- the difference of two numbers, or 0 if it is negative, is at most the first
 orZero-subℕ : (m n : ℕ) → orZero (subℕ m n) ≤ m
 unfolding orZero
 orZero-subℕ m n = by (ltb m n)
@@ -73,6 +82,7 @@ orZero-subℕ m n = by (ltb m n)
     by true = omega arith
     by false = omega arith
 
+-- a signed number, or 0 if it is negative, is at most its magnitude
 orZero-le : (z : ℤ) → orZero z ≤ natAbs z
 unfolding orZero
 orZero-le (pos n) = omega arith
@@ -86,6 +96,7 @@ orZero-sum (pos m) (negsuc n) = omega (arith, orZero-subℕ m (suc n))
 orZero-sum (negsuc m) (pos n) = omega (arith, orZero-subℕ n (suc m))
 orZero-sum (negsuc m) (negsuc n) = omega arith
 
+-- the actual of a row that ground 13 does not refuse is at most twice the most kW
 actual-le : (r : Row) → RowIn r → actual r ≤ 2 * mostKilowatts
 unfolding actual
 actual-le r i = omega (arith, orZero-sum (r .metered) (r .adjustment), i .metered, i .adjustment)
@@ -94,6 +105,7 @@ actual-le r i = omega (arith, orZero-sum (r .metered) (r .adjustment), i .metere
 never-both : (r : Row) (e : ℕ) → (shortfall r e ≡ 0) ⊎ (bonus r e ≡ 0)
 never-both r e = elim (decLe e (actual r)) [ yes h ↦ inl (omega (arith, shortfall-le r e)) | no h ↦ inr (omega (arith, bonus-le r e)) ]
 
+-- so of a row's figures, at any ratio, the shortfall or the bonus is 0
 pub exclusive : (q : Ratio) (r : Row) → (rowFigures q r .shortfall ≡ 0) ⊎ (rowFigures q r .bonus ≡ 0)
 unfolding rowFigures
 exclusive q r = ⊎-elim (λ h. inl (if-zero r (shortfall r (expected q r)) h)) (λ h. inr (if-zero r (bonus r (expected q r)) h)) (never-both r (expected q r))
@@ -107,6 +119,7 @@ pub record FiguresIn (f : RowFigures) : Type 0 where
   pub shortfall : f .shortfall ≤ mostKilowatts
   pub bonus : f .bonus ≤ 2 * mostKilowatts
 
+-- a row within its bounds has figures within theirs, at any ratio
 pub figures-in : (q : Ratio) (r : Row) → RowIn r → FiguresIn (rowFigures q r)
 unfolding rowFigures expected outage economic
 figures-in q r i =
@@ -122,10 +135,12 @@ figures-in q r i =
       bonus = omega (arith, if-le r (bonus r e), bonus-le r e, actual-le r i);
     }
 
+-- a row adds at most its actual to the numerator
 share-le : (k : Kind) (r : Row) → numeratorShareAs k r ≤ actual r
 unfolding numeratorShareAs
 share-le k r = each-kind (λ k. numeratorShareAs k r ≤ actual r) (omega arith) (omega (arith, bonus-le r (r .committed))) (omega arith) (omega (arith, bonus-le r (r .committed))) (omega arith) (omega arith) k
 
+-- the net imports add at most their magnitude to the numerator
 imports-le : (h : Header) → importShare h ≤ natAbs (h .imports)
 unfolding importShare
 imports-le h = by (eqb (h .regionWide) 1)
@@ -144,10 +159,12 @@ numerator-le h rs i few rows =
     let all = sum-most (λ r. ifConsidered r (numeratorShareAs (kindOf (r .kind)) r)) (2 * mostKilowatts) rs each in
     omega (arith, all, mul-le-mul-right (2 * mostKilowatts) few, imports-le h, i .imports)
 
+-- a row adds at most its committed kW to the denominator
 denominator-share-le : (k : Kind) (r : Row) → denominatorShareAs k r ≤ r .committed
 unfolding denominatorShareAs
 denominator-share-le k r = each-kind (λ k. denominatorShareAs k r ≤ r .committed) (omega arith) (omega arith) (omega arith) (omega arith) (omega arith) (omega arith) k
 
+-- the denominator is at most the most kW for each of the most rows
 pub denominator-le : (rs : List Row) → length rs ≤ mostRows → ((r : Row) → List·Memᴰ r rs → RowIn r) → denominator rs ≤ mostRows * mostKilowatts
 unfolding denominator
 denominator-le rs few rows =

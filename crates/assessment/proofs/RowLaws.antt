@@ -1,8 +1,8 @@
 -- The figures of a row: which of its words each reads, and what a row that is not considered has.
 use Prim.Native.Nat.{ℕ}
-use mathlib.Core.Path.{_≡_, refl, sym}
+use mathlib.Core.Path.{_≡_, refl}
 use mathlib.Core.List.{List}
-use mathlib.Core.Bool.{Bool, true, false, not}
+use mathlib.Core.Bool.{true, false}
 use Rattle.words.specs.Words.{word32}
 use Rattle.reading.specs.Interval.{Row, kindOf, rowAt}
 use Rattle.assessment.specs.Assessment.{Ratio, considered, ifConsidered, expectedAs, expected, outageAs, outage}
@@ -23,15 +23,7 @@ pub left-out : (r : Row) (x : ℕ) → considered r ≡ false → 0 ≡ ifConsid
 unfolding ifConsidered
 left-out r x e = rw e
 
+-- a word of a row that is considered is the figure itself
 pub counted : (r : Row) {x y : ℕ} → considered r ≡ true → y ≡ x → y ≡ ifConsidered r x
 unfolding ifConsidered
 counted r c e = rw c e
-
--- a test turned round
-pub not-true : (b : Bool) → not b ≡ true → b ≡ false
-not-true true e = sym e
-not-true false e = refl
-
-pub not-false : (b : Bool) → not b ≡ false → b ≡ true
-not-false true e = refl
-not-false false e = sym e

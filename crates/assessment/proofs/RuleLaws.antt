@@ -54,6 +54,7 @@ pub imports-left : (h : Header) → (h .regionWide ≡ 1 → ⊥) → importShar
 unfolding importShare
 imports-left h e = rw (ne-eqb (h .regionWide) 1 e)
 
+-- a region-wide file adds its net imports, or 0 if they are negative
 pub imports-counted : (h : Header) → h .regionWide ≡ 1 → importShare h ≡ orZero (h .imports)
 unfolding importShare
 imports-counted h e = rw (eq-eqb (h .regionWide) 1 e)
@@ -63,30 +64,36 @@ pub no-denominator : (n d whole : ℕ) → d ≡ 0 → portion (record { numerat
 unfolding portion
 no-denominator n d whole e = rw (eq-eqb d 0 e)
 
+-- with a denominator the part is multiplied, divided and rounded down once, and cut to the whole
 pub some-denominator : (n d whole : ℕ) → (d ≡ 0 → ⊥) → portion (record { numerator = n; denominator = d }) whole ≡ min (whole * n / d) whole
 unfolding portion
 some-denominator n d whole e = rw (ne-eqb d 0 e)
 
 -- Expected, by the kind word
 module _ (q : Ratio) (r : Row) where
+  -- of kind 0, the ratio's part of the committed kW is expected
   pub expected-generation : r .kind ≡ 0 → expected q r ≡ portion q (r .committed)
   unfolding expected expectedAs kindOf
   expected-generation e = rw e
 
+  -- of kinds 1, 2 and 3, the committed kW are expected
   pub expected-reducing : (r .kind ≡ 0 → ⊥) → r .kind < 4 → expected q r ≡ r .committed
   unfolding expected expectedAs
   expected-reducing some h = kind-reducing (λ k. expectedAs k q r ≡ r .committed) refl refl refl (r .kind) some h
 
+  -- of kind 4 and of no kind, nothing is expected
   pub expected-high : 4 ≤ r .kind → expected q r ≡ 0
   unfolding expected expectedAs
   expected-high h = kind-high (λ k. expectedAs k q r ≡ 0) refl refl (r .kind) h
 
 -- Outage, by the kind word
 module _ (r : Row) where
+  -- the outage of kinds 0 and 4 is the planned kW
   pub outage-supply : (r .kind ≡ 0) ⊎ (r .kind ≡ 4) → outage r ≡ r .planned
   unfolding outage outageAs
   outage-supply h = kind-supply (λ k. outageAs k r ≡ r .planned) refl refl (r .kind) h
 
+  -- any other kind has no outage
   pub outage-other : ((r .kind ≡ 0) ⊎ (r .kind ≡ 4) → ⊥) → outage r ≡ 0
   unfolding outage outageAs
   outage-other h = kind-other (λ k. outageAs k r ≡ 0) refl refl refl refl (r .kind) h
@@ -96,10 +103,12 @@ module _ (r : Row) where
   unfolding bonus bonusActualAs
   bonus-supply e h = kind-supply (λ k. bonusActualAs k r - e ≡ min (actual r) (scheduled r) - e) refl refl (r .kind) h
 
+  -- for kinds 1, 2 and 3 it is the actual above the expected kW, not cut to the scheduled kW
   pub bonus-reducing : (e : ℕ) → (r .kind ≡ 0 → ⊥) → r .kind < 4 → bonus r e ≡ actual r - e
   unfolding bonus bonusActualAs
   bonus-reducing e some h = kind-reducing (λ k. bonusActualAs k r - e ≡ actual r - e) refl refl refl (r .kind) some h
 
+  -- a row of no kind has no bonus
   pub bonus-none : (e : ℕ) → 4 < r .kind → bonus r e ≡ 0
   unfolding bonus bonusActualAs
   bonus-none e h = rw (kind-none (r .kind) h) (omega arith)
@@ -109,6 +118,7 @@ module _ (r : Row) where
   unfolding economic economicAs
   economic-supply e h = kind-supply (λ k. economicAs k r e ≡ economicRule r e) refl refl (r .kind) h
 
+  -- any other kind has no economic kW
   pub economic-other : (e : ℕ) → ((r .kind ≡ 0) ⊎ (r .kind ≡ 4) → ⊥) → economic r e ≡ 0
   unfolding economic economicAs
   economic-other e h = kind-other (λ k. economicAs k r e ≡ 0) refl refl refl refl (r .kind) h
@@ -122,24 +132,29 @@ pub no-share : (cents total kw : ℕ) → total ≡ 0 → share cents total kw �
 unfolding share
 no-share cents total kw e = rw (eq-eqb total 0 e)
 
+-- with some bonus in total, a share is the bonus times the cents over the total, rounded down
 pub some-share : (cents total kw : ℕ) → (total ≡ 0 → ⊥) → share cents total kw ≡ kw * cents / total
 unfolding share
 some-share cents total kw e = rw (ne-eqb total 0 e)
 
 -- what a row adds to the numerator, by the kind word
 module _ (r : Row) where
+  -- kinds 0 and 4 add their actual
   pub numerator-supply : (r .kind ≡ 0) ⊎ (r .kind ≡ 4) → numeratorShare r ≡ actual r
   unfolding numeratorShare numeratorShareAs ifConsidered considered consideredAs
   numerator-supply h = kind-supply (λ k. cond (consideredAs k r) (numeratorShareAs k r) 0 ≡ actual r) refl refl (r .kind) h
 
+  -- kind 1 adds what its actual stands above the committed kW
   pub numerator-demand : r .kind ≡ 1 → numeratorShare r ≡ actual r - r .committed
   unfolding numeratorShare numeratorShareAs ifConsidered considered consideredAs bonus bonusActualAs kindOf
   numerator-demand e = rw e
 
+  -- kind 3 adds the same where it is considered
   pub numerator-considered : r .kind ≡ 3 → considered r ≡ true → numeratorShare r ≡ actual r - r .committed
   unfolding numeratorShare numeratorShareAs ifConsidered bonus bonusActualAs kindOf
   numerator-considered e c = rw (c, e)
 
+  -- a row that is not considered adds nothing
   pub numerator-not-considered : considered r ≡ false → numeratorShare r ≡ 0
   unfolding numeratorShare ifConsidered
   numerator-not-considered c = rw c
@@ -163,6 +178,7 @@ module _ (r : Row) where
   unfolding denominatorShareAs kindOf
   denominator-generation e = rw e
 
+  -- any kind but 0 adds nothing to the denominator
   pub denominator-other : (r .kind ≡ 0 → ⊥) → denominatorShareAs (kindOf (r .kind)) r ≡ 0
   unfolding denominatorShareAs
   denominator-other some = by (decLe (r .kind) 3)

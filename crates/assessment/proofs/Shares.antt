@@ -26,6 +26,7 @@ counted w (x ∷ xs) h = by (ltb 0 (w x)) refl (counted w xs)
 
 -- shares of cents by weight, over any whole
 module _ {A : Type 0} (w : A → ℕ) (cents whole : ℕ) where
+  -- the shares, each rounded down, times the whole are at most the weights times the cents
   shares-le : (xs : List A) → sum (λ x. w x * cents / whole) xs * whole ≤ sum w xs * cents
   unfolding sum
   shares-le [] = omega arith
@@ -39,6 +40,7 @@ module _ {A : Type 0} (w : A → ℕ) (cents whole : ℕ) where
       by true e = omega (arith, lt-div-mul-add {a = w x * cents} p)
       by false e = omega (arith, mul-le-mul-right cents (ltb-false 0 (w x) e))
 
+  -- together they fall short of their parts by at most one less than a whole for each weight above 0
   shares-rest : 0 < whole → (xs : List A)
       → sum w xs * cents + sum (λ x. cond (ltb 0 (w x)) 1 0) xs ≤ (sum (λ x. w x * cents / whole) xs + sum (λ x. cond (ltb 0 (w x)) 1 0) xs) * whole
   unfolding sum
@@ -47,17 +49,21 @@ module _ {A : Type 0} (w : A → ℕ) (cents whole : ℕ) where
 
 -- shares of cents by weight, over the sum of the weights
 module _ {A : Type 0} (w : A → ℕ) (cents : ℕ) (xs : List A) where
+  -- the sum of the weights
   abbrev whole : ℕ
   whole = sum w xs
 
+  -- where the weights come to 0, nothing is shared
   none-shared : eqb whole 0 ≡ true → sum (λ x. share cents whole (w x)) xs ≡ 0
   unfolding share
   none-shared e = ap (λ (t : Bool). sum (λ x. cond t 0 (w x * cents / whole)) xs) e ∙ sum-zero xs
 
+  -- where they do not, the shares add up as weight times cents over that sum, each rounded down
   all-shared : eqb whole 0 ≡ false → sum (λ x. share cents whole (w x)) xs ≡ sum (λ x. w x * cents / whole) xs
   unfolding share
   all-shared e = ap (λ (t : Bool). sum (λ x. cond t 0 (w x * cents / whole)) xs) e
 
+  -- the shares come to no more than the cents
   pub shared-le : sum (λ x. share cents whole (w x)) xs ≤ cents
   shared-le = by (eqb whole 0) refl
     where
@@ -105,6 +111,7 @@ credit-is-share v t accounts q r = by (considered r)
     by false = sym (share-zero (pool v) (totalBonus v))
 
 module _ (t : Terms) (accounts : List Account) (carried : ℕ) (h : Header) (rs : List Row) where
+  -- the interval that the rows make on these terms, accounts and carried cents
   abbrev v : Assessed
   v = assessed t accounts carried h rs
 

@@ -1,6 +1,6 @@
--- One pass over the rows of a file: what is left of its sums, and what each turn needs of a row.
+-- One pass over the rows of a file: what each turn needs of a row.
 use Prim.Native.Nat.{ℕ, _+_, _-_, _*_, _≤_, _<_}
-use mathlib.Core.Path.{_≡_, refl, sym, ap, _∙_}
+use mathlib.Core.Path.{_≡_, refl, ap, _∙_}
 use mathlib.Core.List.{List, []}
 use mathlib.Core.Bool.{Bool, false, _&&_}
 use native.Mathlib.Omega.{arith}
@@ -8,13 +8,12 @@ use lib.ListN.{length, take, drop, length-drop}
 use lib.Dec.{ltb}
 use borrow.Author.Tests.{lt-ltb, ltb-false}
 use borrow.Rule.Slice.PartAt.{part-to-end}
-use Rattle.words.specs.Lists.{sum, any}
 use Rattle.words.specs.Words.{word32}
-use Rattle.words.proofs.Tests.{facts, not-first, not-second}
-use Rattle.reading.specs.Interval.{rowBytes, Row, kindOf, headerOf, rowAt, rowOf, rowsOf, pointsOutside}
+use Rattle.words.proofs.Tests.{facts}
+use Rattle.reading.specs.Interval.{rowBytes, Row, kindOf, headerOf, rowAt, rowOf, pointsOutside}
 use Rattle.assessment.specs.Assessment.{denominatorShareAs}
 use Rattle.assessment.proofs.KindLaws.{each-kind}
-use Rattle.reading.proofs.Walk.{part-at, rowPart, rowsLeft, rows-start, rows-turn, rows-end}
+use Rattle.reading.proofs.Walk.{part-at, rowPart}
 
 -- what a row adds to the denominator
 abbrev pub lowerShare : Row → ℕ
@@ -30,33 +29,13 @@ module _ (f : List ℕ) where
   abbrev pub partFrom : ℕ → List ℕ
   partFrom at = take (length f - at) (drop at f)
 
+  -- such a part has as many bytes as the file has from there on
   pub part-length : (at : ℕ) → length (partFrom at) ≡ length f - at
   part-length at = ap length (part-to-end f at) ∙ length-drop at f
 
-  -- what is left of a sum over the rows, from row i on
-  pub sum-start : (g : Row → ℕ) → 0 + sum g (rowsLeft f 0) ≡ sum g (rowsOf f)
-  sum-start g = let same = ap (sum g) (rows-start f) in omega (arith, same)
-
-  pub sum-turn : (g : Row → ℕ) (i so all share : ℕ) → i < headerOf f .rowCount → so + sum g (rowsLeft f i) ≡ all → share ≡ g (rowOf f (rowPart f i))
-      → so + share + sum g (rowsLeft f (i + 1)) ≡ all
-  unfolding sum
-  sum-turn g i so all share h left e = let here = ap (sum g) (rows-turn f i h) in omega (arith, here, left, e)
-
-  pub sum-end : (g : Row → ℕ) (i so all : ℕ) → headerOf f .rowCount ≤ i → so + sum g (rowsLeft f i) ≡ all → so ≡ all
-  unfolding sum
-  sum-end g i so all h left = let none = ap (sum g) (rows-end f i h) in omega (arith, none, left)
-
+  -- a row that ground 14 refuses
   abbrev pub fails : Row → Bool
   fails = pointsOutside (headerOf f .pointCount)
-
-  pub fails-start : any fails (rowsOf f) ≡ false → any fails (rowsLeft f 0) ≡ false
-  fails-start e = sym (ap (any fails) (rows-start f)) ∙ e
-
-  pub fails-turn : (i : ℕ) → i < headerOf f .rowCount → any fails (rowsLeft f i) ≡ false → (fails (rowOf f (rowPart f i)) ≡ false) × (any fails (rowsLeft f (i + 1)) ≡ false)
-  unfolding any
-  fails-turn i h e =
-      let both = sym (ap (any fails) (rows-turn f i h)) ∙ e in
-      (not-first (fails (rowOf f (rowPart f i))) (any fails (rowsLeft f (i + 1))) both, not-second (fails (rowOf f (rowPart f i))) (any fails (rowsLeft f (i + 1))) both)
 
   -- the points of a row that ground 14 does not refuse lie within the table
   pub points-within : (i : ℕ) → fails (rowOf f (rowPart f i)) ≡ false → 0 < word32 (rowPart f i) 13
@@ -66,6 +45,7 @@ module _ (f : List ℕ) where
       let both : (ltb 0 (word32 (rowPart f i) 13) && ltb (headerOf f .pointCount) (word32 (rowPart f i) 12 + word32 (rowPart f i) 13)) ≡ false = search facts in
       ltb-false (headerOf f .pointCount) (word32 (rowPart f i) 12 + word32 (rowPart f i) 13) (rw (lt-ltb 0 (word32 (rowPart f i) 13) some) at both)
 
+  -- where the table of points ends within the file, so do the points of such a row
   pub curve-within : (i at : ℕ) → at ≡ headerOf f .rowsOffset + rowBytes * i → fails (rowOf f (rowPart f i)) ≡ false
       → headerOf f .pointsOffset + 8 * headerOf f .pointCount ≤ length f → 0 < word32 (partFrom at) 13
       → headerOf f .pointsOffset + 8 * (word32 (partFrom at) 12 + word32 (partFrom at) 13) ≤ length f
@@ -78,6 +58,7 @@ module _ (f : List ℕ) where
   row-in-parts g i at curve share place same e =
       e ∙ ap (λ p. g (rowAt (partFrom at) p)) (part-to-end f curve) ∙ ap g same ∙ ap (λ b. g (rowOf f b)) (part-at f at (headerOf f .rowsOffset + rowBytes * i) place)
 
+  -- the same of what a row adds to the denominator, computed without its points
   pub lower-in-parts : (i at curve share : ℕ) → at ≡ headerOf f .rowsOffset + rowBytes * i
       → rowAt (partFrom at) (drop curve f) ≡ rowOf f (partFrom at) → share ≡ lowerShare (rowAt (partFrom at) []) → share ≡ lowerShare (rowOf f (rowPart f i))
   lower-in-parts i at curve share place same e = row-in-parts lowerShare i at curve share place same (e ∙ lower-without-points (partFrom at) [] (partFrom curve))

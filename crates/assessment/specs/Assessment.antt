@@ -13,15 +13,15 @@ use Rattle.reading.specs.Interval.{Header, Point, Row, Kind, generation, demand
 abbrev pub wholeRatio : ℕ
 wholeRatio = 1000000
 
--- the limit is 3 times Net CONE times days times kW, divided by this
+-- of the limit: three halves of Net CONE times days times kW
 abbrev pub limitFactor : ℕ
 limitFactor = 3
 
--- 2 from three halves, 1000 kW to the MW
+-- of the limit: 2 from the three halves, and 1000 kW to the MW
 abbrev pub limitDivisor : ℕ
 limitDivisor = 2000
 
--- a charge is shortfall times Net CONE times days, divided by this
+-- of a charge: 1000 kW to the MW, 30 hours, 12 intervals an hour
 abbrev pub chargeDivisor : ℕ
 chargeDivisor = 360000
 
@@ -39,7 +39,7 @@ unfoldable pub orElse : List Point → List Point → List Point
 orElse [] later = later
 orElse (p ∷ ps) later = p ∷ ps
 
--- the curve from the last point priced at or below the LMP on; empty if there is none
+-- the curve from the last point on whose price is at or below the LMP; empty if no price is
 unfoldable pub fromLastReached : ℤ → List Point → List Point
 fromLastReached lmp [] = []
 fromLastReached lmp (p ∷ ps) = orElse (fromLastReached lmp ps) (cond (leZ (p .price) lmp) (p ∷ ps) [])
@@ -76,7 +76,7 @@ unfoldable pub firstKw : List Point → ℕ
 firstKw [] = 0
 firstKw (p ∷ ps) = p .kw
 
--- Considered: every row but a PRD row whose last point priced at or below the LMP has 0 kW, or that has no such point
+-- Considered: every row; of PRD rows only those whose last point at or below the LMP is above 0 kW
 unfoldable pub consideredAs : Kind → Row → Bool
 consideredAs generation r = true
 consideredAs demand r = true
@@ -98,7 +98,7 @@ pub record Ratio : Type 0 where
   pub numerator : ℕ
   pub denominator : ℕ
 
--- a whole times numerator divided by denominator, rounded down once, never above the whole, and 0 if the denominator is 0
+-- the part of a whole that a ratio gives: multiplied, divided and rounded down once; at most the whole, and 0 without a denominator
 unfoldable pub portion : Ratio → ℕ → ℕ
 portion q whole = cond (eqb (q .denominator) 0) 0 (min (whole * q .numerator / q .denominator) whole)
 
@@ -170,7 +170,7 @@ ratioOf h rs = record { numerator = numerator h rs; denominator = denominator rs
 unfoldable pub printedRatio : Ratio → ℕ
 printedRatio q = portion q wholeRatio
 
--- Outage: word 6 for kinds 0 and 4, else 0
+-- Outage: word 6, of kinds 0 and 4 alone
 unfoldable pub outageAs : Kind → Row → ℕ
 outageAs generation r = r .planned
 outageAs demand r = 0
@@ -183,7 +183,7 @@ outageAs noKind r = 0
 unfoldable pub outage : Row → ℕ
 outage r = outageAs (kindOf (r .kind)) r
 
--- the least of emergency maximum, expected, and owned minus both outages (at least 0), minus the greater of scheduled and actual; 0 if negative
+-- how far the least of emergency maximum, expected, and owned without both outages stands above the greater of scheduled and actual
 unfoldable pub economicRule : Row → ℕ → ℕ
 economicRule r expect = min (r .maximum) (min expect (r .owned - (r .planned + r .forced))) - max (scheduled r) (actual r)
 
@@ -278,11 +278,11 @@ assessed t accounts carried h rs =
     let q = ratioOf h rs in
     record { ratio = q; rows = map (chargedRow t accounts q) rs; carried = carried }
 
--- an interval's charges and total bonus are the sums over its own rows
+-- charges: the sum over an interval's rows
 unfoldable pub charges : Assessed → ℕ
 charges v = sum (λ c. c .charge) (v .rows)
 
--- total bonus
+-- total bonus: likewise
 unfoldable pub totalBonus : Assessed → ℕ
 totalBonus v = sum (λ c. c .figures .bonus) (v .rows)
 
@@ -290,7 +290,7 @@ totalBonus v = sum (λ c. c .figures .bonus) (v .rows)
 unfoldable pub pool : Assessed → ℕ
 pool v = v .carried + charges v
 
--- bonus times pool divided by total bonus, rounded down; with no bonus nothing is shared
+-- a share of so many cents by bonus, multiplied before it is divided by the total, and rounded down; with no bonus nothing is shared
 unfoldable pub share : ℕ → ℕ → ℕ → ℕ
 share cents total kw = cond (eqb total 0) 0 (kw * cents / total)
 
@@ -298,7 +298,7 @@ share cents total kw = cond (eqb total 0) 0 (kw * cents / total)
 unfoldable pub credit : Assessed → ChargedRow → ℕ
 credit v c = ifConsidered (c .row) (share (pool v) (totalBonus v) (c .figures .bonus))
 
--- an interval's credits are the sum over its own rows
+-- credits: the sum over an interval's rows
 unfoldable pub credits : Assessed → ℕ
 credits v = sum (credit v) (v .rows)
 

@@ -205,7 +205,7 @@ workedFigures =
     ∷ denied (pos 1000) .charge gives 0
     ∷ denied (pos 5000) .figures .bonus gives 0
     ∷ raised (prd (pos 1999)) (account 2000 0) .largest gives 3000
-    -- expected of kinds 1, 2 and 3 is the committed kW whatever the ratio, and of kind 4 nothing
+    -- the ratio touches kind 0 alone: kinds 1, 2 and 3 are expected to give what they committed, kind 4 nothing
     ∷ expected (over 1 2) (onKind 1 1000) gives 1000
     ∷ expected (over 1 2) (onKind 2 1000) gives 1000
     ∷ expected (over 1 2) (onKind 3 1000) gives 1000
@@ -233,12 +233,12 @@ workedFigures =
     ∷ denominator eachKind gives 1
     -- the ratio is not rounded before it is multiplied (3466692 by way of millionths)
     ∷ expected (over 130001 150000) (onKind 0 4000000) gives 3466693
-    -- expected is never above committed, and 0 if the denominator is 0
+    -- a ratio above 1 counts as 1, and one without a denominator as 0
     ∷ expected (over 3 2) (onKind 0 100000) gives 100000
     ∷ expected (over 3 0) (onKind 0 100000) gives 0
     ∷ printedRatio (over 3 2) gives 1000000
     ∷ printedRatio (over 3 0) gives 0
-    -- outage is word 6 for kinds 0 and 4 alone
+    -- outage reads word 6, not word 7, and of kinds 0 and 4 alone
     ∷ outage (at60 0 0 (pos 0) 7 5 110000) gives 7
     ∷ outage (at60 1 0 (pos 0) 7 5 110000) gives 0
     ∷ outage (at60 2 0 (pos 0) 7 5 110000) gives 0

@@ -150,7 +150,7 @@ pub fn outage(row: &[u8]) -> Kilowatts
     }
 }
 
-// Bonus, of a row of which so many kW are expected, by the kind word: for kinds 0 and 4 the actual is first cut to the scheduled kW.
+// Bonus, of a row of which so many kW are expected, by the kind word: kinds 0 and 4 have none for what they gave above the schedule.
 pub fn bonus(
     row: &[u8],
     points: &[u8],
@@ -236,7 +236,7 @@ pub fn charge(cone: u64, days: u64, largest: Kilowatts, charged: Cents, short: K
     Cents(lesser(full.0, above(most.0, charged.0)))
 }
 
-// A share of the pool: bonus times pool divided by total bonus, rounded down; nothing with no bonus.
+// A share of the pool by bonus, multiplied before it is divided, and rounded down; nothing with no bonus.
 pub fn share(cents: Cents, total: Kilowatts, kw: Kilowatts) -> Cents
     requires { ⌜ cents .0 ≤ 1099511627775 ⌝ }
     requires { ⌜ kw .0 ≤ 8000000 ⌝ }

@@ -4,10 +4,9 @@ use mathlib.Core.Path.{_≡_, sym, ap, _∙_}
 use mathlib.Core.List.{List, [], _∷_}
 use native.Mathlib.Nat.{add-zero}
 use lib.ListN.{drop}
-use lib.Seq.{drop-drop}
 use Rattle.words.specs.Words.{numberAt, word64}
 use Rattle.words.proofs.Access.{numberAt-drop}
-use Rattle.reading.proofs.Tables.{entriesFrom, table-start, table-turn, table-end}
+use Rattle.reading.proofs.Tables.{entriesFrom, table-start, table-turn-at, table-end}
 use Rattle.assessment.specs.Assessment.{Account}
 use Rattle.ledger.specs.Ledger.{ledgerHeaderBytes, accountBytes, accountAt, accountCount, ledgerOf}
 
@@ -29,16 +28,17 @@ module _ (b : List ℕ) where
   unfoldable pub accountsLeft : ℕ → List Account
   accountsLeft = entriesFrom accountBytes accountAt (accountCount b) (drop ledgerHeaderBytes b)
 
+  -- before any account is read, all of the ledger's accounts are left
   pub accounts-start : ledgerOf b .accounts ≡ accountsLeft 0
   unfolding ledgerOf accountsLeft
   accounts-start = table-start accountBytes accountAt (accountCount b) (drop ledgerHeaderBytes b)
 
+  -- below the count, the accounts from j on are account j and those from j + 1 on
   pub accounts-turn : (j : ℕ) → j < accountCount b → accountsLeft j ≡ accountAt (accountPart j) ∷ accountsLeft (j + 1)
   unfolding accountsLeft
-  accounts-turn j h =
-      table-turn accountBytes accountAt (accountCount b) (drop ledgerHeaderBytes b) j h
-      ∙ ap (λ part. accountAt part ∷ entriesFrom accountBytes accountAt (accountCount b) (drop ledgerHeaderBytes b) (j + 1)) (drop-drop (accountBytes * j) ledgerHeaderBytes b)
+  accounts-turn = table-turn-at accountBytes accountAt (accountCount b) ledgerHeaderBytes b
 
+  -- from the count on, no account is left
   pub accounts-end : (j : ℕ) → accountCount b ≤ j → accountsLeft j ≡ []
   unfolding accountsLeft
-  accounts-end j h = table-end accountBytes accountAt (accountCount b) (drop ledgerHeaderBytes b) j h
+  accounts-end = table-end accountBytes accountAt (accountCount b) (drop ledgerHeaderBytes b)

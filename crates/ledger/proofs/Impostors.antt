@@ -22,6 +22,7 @@ Told program block ledger = program block ledger ≡ opening block ledger → �
 pub alwaysRefuses : List ℕ → List ℕ → OpeningAnswer
 alwaysRefuses block ledger = record { ground = 1; ledger = ledger }
 
+-- told by the listing's block and a buffer of just its bytes, which opening accepts
 pub always-refuses-told : Told alwaysRefuses listingBlock (buffer 192)
 unfolding alwaysRefuses listingBlock blockWith computing
 always-refuses-told same = omega (arith, ap (λ a. a .ground) same)
@@ -30,6 +31,7 @@ always-refuses-told same = omega (arith, ap (λ a. a .ground) same)
 pub fixedAnswer : List ℕ → List ℕ → OpeningAnswer
 fixedAnswer block ledger = record { ground = 0; ledger = written (ledgerWords (openedLedger block)) ledger }
 
+-- told by a buffer one byte too short, which opening refuses
 pub fixed-answer-told : Told fixedAnswer listingBlock (buffer 191)
 unfolding fixedAnswer listingBlock blockWith computing
 fixed-answer-told same = omega (arith, ap (λ a. a .ground) same)
@@ -38,6 +40,7 @@ fixed-answer-told same = omega (arith, ap (λ a. a .ground) same)
 pub doesNoWork : List ℕ → List ℕ → OpeningAnswer
 doesNoWork block ledger = record { ground = opening block ledger .ground; ledger = ledger }
 
+-- told by the first byte of the ledger that opening writes
 pub does-no-work-told : Told doesNoWork listingBlock (buffer 192)
 unfolding doesNoWork listingBlock blockWith computing
 does-no-work-told same = omega (arith, ap (λ a. getD (a .ledger) 0 0) same)
@@ -48,6 +51,7 @@ writesFirst block ledger =
     let ground = answered (openingGrounds block ledger) in
     record { ground = ground; ledger = cond (eqb ground 5) (written (ledgerWords (openedLedger block)) ledger) (opening block ledger .ledger) }
 
+-- told by a buffer one byte too short, which opening leaves as it was
 pub writes-first-told : Told writesFirst listingBlock (buffer 191)
 unfolding writesFirst listingBlock blockWith computing
 writes-first-told same = omega (arith, ap (λ a. getD (a .ledger) 0 0) same)
@@ -58,6 +62,7 @@ groundsSwapped block ledger =
     let grounds : List (Bool × ℕ) = (notABlock block, 1) ∷ (idsMisplaced block, 3) ∷ (termsOutside (blockOf block .terms), 2) ∷ (idsOutOfOrder (blockOf block .ids), 4) ∷ (ledgerTooShort block ledger, 5) ∷ [] in
     record { ground = answered grounds; ledger = opening block ledger .ledger }
 
+-- told by a block with Net CONE 0 and no ids, which opening answers with 2
 pub grounds-swapped-told : Told groundsSwapped (blockWith 0 365 []) (buffer 64)
 unfolding groundsSwapped blockWith computing
 grounds-swapped-told same = omega (arith, ap (λ a. a .ground) same)

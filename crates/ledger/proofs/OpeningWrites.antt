@@ -17,6 +17,7 @@ use Rattle.reading.proofs.Bounds.{length-ids}
 abbrev pub newWords : List ℕ → List ℕ
 newWords is = accountWords (map emptyAccount is)
 
+-- the words of new accounts begin with the first one's: its id and three zeros
 first-account : (i : ℕ) (is : List ℕ) → newWords (i ∷ is) ≡ (i ∷ 0 ∷ 0 ∷ 0 ∷ []) ++ newWords is
 unfolding accountWords emptyAccount
 first-account i is = refl

@@ -38,10 +38,12 @@ pub record BlockAccepted (block ledger : List ℕ) : Type 0 where
   pub ids : idsOutOfOrder (blockOf block .ids) ≡ false
   pub room : ledgerBytes (blockOf block .idCount) ≤ length ledger
 
+-- where a call of opening answers 0, none of its grounds applies
 pub opening-none : (block ledger : List ℕ) → opening block ledger .ground ≡ 0 → answered (openingGrounds block ledger) ≡ 0
 unfolding opening
 opening-none block ledger e = ground-zero {A = OpeningAnswer} (answered (openingGrounds block ledger)) (λ a. a .ground) _ _ refl e
 
+-- where no ground of opening applies, the block keeps its bounds and the buffer has room for its ledger
 pub block-accepted : (block ledger : List ℕ) → answered (openingGrounds block ledger) ≡ 0 → BlockAccepted block ledger
 unfolding openingGrounds any ledgerTooShort
 block-accepted block ledger e =
@@ -64,6 +66,7 @@ pub record AccountIn (t : Terms) (a : Account) : Type 0 where
   pub charged : a .charged ≤ limit t (a .largest)
   pub credited : a .credited ≤ mostCredited
 
+-- an account that is not outside keeps the bounds of its commitment, charged sum and credited sum
 pub account-in : (t : Terms) (a : Account) → accountOutside t a ≡ false → AccountIn t a
 unfolding accountOutside
 account-in t a e = record { largest = search facts; charged = search facts; credited = search facts }
@@ -79,14 +82,17 @@ pub record LedgerIn (l : Ledger) : Type 0 where
   pub accounts : (a : Account) → List·Memᴰ a (l .accounts) → AccountIn (l .terms) a
   pub closes : sum (λ a. a .charged) (l .accounts) ≡ sum (λ a. a .credited) (l .accounts) + l .carried
 
+-- a ledger read from bytes has as many accounts as word 5 says
 pub length-accounts : (b : List ℕ) → length (ledgerOf b .accounts) ≡ accountCount b
 unfolding ledgerOf
 length-accounts b = length-entries accountBytes accountAt (accountCount b) (drop ledgerHeaderBytes b)
 
+-- where the closing test does not refuse, charged sums are credited sums plus carried
 closes-of : (l : Ledger) → doesNotClose l ≡ false → sum (λ a. a .charged) (l .accounts) ≡ sum (λ a. a .credited) (l .accounts) + l .carried
 unfolding doesNotClose
 closes-of l e = search facts
 
+-- bytes that ground 6 does not refuse hold a ledger within all its bounds, whose sums close
 pub ledger-in : (b : List ℕ) → notALedger b ≡ false → LedgerIn (ledgerOf b)
 unfolding notALedger
 ledger-in b e =
@@ -106,6 +112,7 @@ ledger-in b e =
       closes = closes-of (ledgerOf b) close;
     }
 
+-- bytes that ground 6 does not refuse have room for all accounts of their ledger
 pub ledger-room : (b : List ℕ) → notALedger b ≡ false → ledgerBytes (length (ledgerOf b .accounts)) ≤ length b
 unfolding notALedger
 ledger-room b e =

@@ -27,11 +27,11 @@ ledgerFormat = 1
 abbrev pub accountsOffset : ℕ
 accountsOffset = 8
 
--- carried cents, and so a pool
+-- the most carried cents, and so the largest pool
 abbrev pub mostCents : ℕ
 mostCents = 1099511627775
 
--- a credited sum
+-- the largest credited sum
 abbrev pub mostCredited : ℕ
 mostCredited = 224870400000000
 

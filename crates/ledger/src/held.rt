@@ -16,7 +16,10 @@ use crate::layout::OFFSET;
 use crate::layout::account_at;
 use crate::layout::word;
 use assessment::rules::limit;
+use reading::block::MOST_IDS;
 use reading::block::terms_outside;
+use reading::interval::INTERVALS_PER_DAY;
+use reading::interval::MOST_KILOWATTS;
 ghost use mathlib.Core.Path.{_≡_};
 ghost use mathlib.Core.Bool.{false};
 ghost use Prim.Native.Nat.{_≤_};
@@ -25,13 +28,7 @@ ghost use Rattle.words.specs.Lists.{any};
 ghost use Rattle.reading.specs.Block.{idsOutOfOrder};
 ghost use Rattle.ledger.specs.Ledger.{ledgerBytes, accountCount, ledgerOf, idsIn, notLaidOut, accountOutside, doesNotClose, notALedger};
 
-const MOST_ACCOUNTS: u64 = 512;
-
-const INTERVALS_PER_DAY: u64 = 288;
-
-const MOST_CARRIED: u64 = 1099511627775;
-
-const MOST_KILOWATTS: u64 = 4000000;
+pub const MOST_CENTS: u64 = 1099511627775;
 
 const MOST_CREDITED: u64 = 224870400000000;
 
@@ -49,7 +46,7 @@ fn not_laid_out(ledger: &[u8]) -> bool
     word(ledger, LAST) != 0
 }
 
-// Whether an account's id is 0, or the ids do not rise strictly.
+// Whether the accounts' ids are not in strict order from above 0 on.
 fn ids_out_of_order(ledger: &[u8]) -> bool
     requires { ⌜ accountCount (now ledger) ≤ 512 ⌝ }
     requires { ⌜ ledgerBytes (accountCount (now ledger)) ≤ length (now ledger) ⌝ }
@@ -151,7 +148,7 @@ pub fn not_a_ledger(ledger: &[u8]) -> bool
     if count < 1 {
         return true;
     }
-    if MOST_ACCOUNTS < count {
+    if MOST_IDS < count {
         return true;
     }
     if ledger.len() < HEADER_BYTES + ACCOUNT_BYTES * count as usize {
@@ -163,7 +160,7 @@ pub fn not_a_ledger(ledger: &[u8]) -> bool
     if INTERVALS_PER_DAY * days < word(ledger, EARLIEST) {
         return true;
     }
-    if MOST_CARRIED < word(ledger, CARRIED) {
+    if MOST_CENTS < word(ledger, CARRIED) {
         return true;
     }
     if accounts_outside(ledger) {

@@ -9,6 +9,7 @@ use lib.ListN.{length, drop, getD, set, replicate, length-append, length-replica
 use lib.Seq.{drop-drop, drop-cons, set-at, append-snoc}
 use lib.Dec.{eqb}
 use borrow.Author.Tests.{eq-eqb, ne-eqb}
+use Rattle.words.specs.Words.{wordsIn}
 use Rattle.words.specs.Lists.{any}
 use Rattle.words.proofs.Tests.{facts}
 use Rattle.words.proofs.Grounds.{none-applies}
@@ -19,7 +20,6 @@ use Rattle.ledger.specs.Ledger.{ledgerBytes}
 use Rattle.ledger.specs.Opening.{opening}
 use Rattle.settling.specs.Settling.{resultHeaderBytes, resultRowBytes, resultTooShort, settlingGrounds, SettlingAnswer, settling}
 use Rattle.settling.proofs.Accepted.{settling-none}
-use Rattle.year.specs.Claims.{wordsIn}
 use Rattle.listing.specs.Lines.{line, refusedLine, placedAt}
 use Rattle.listing.specs.Npalist.{rowLines, poolLine, intervalLines, ledgerBuffer, resultBuffer, openingListed, intervalListed}
 use Rattle.listing.proofs.Placing.{place-none, then-place, place-rest}
@@ -46,9 +46,11 @@ module _ (f b : List ℕ) (interval : ℕ) where
   abbrev pub linesLeft : ℕ → List ℕ
   linesLeft i = rowLines interval (rowsLeft f i) (drop (64 + 64 * i) b)
 
+  -- the lines of all rows are those from row 0 on
   pub lines-start : rowLines interval (rowsOf f) (drop 64 b) ≡ linesLeft 0
   lines-start = ap (λ rs. rowLines interval rs (drop 64 b)) (rows-start f)
 
+  -- the lines from row i on are its own line and then those from the next row on
   pub lines-turn : (i id : ℕ) (part : List ℕ) → i < headerOf f .rowCount → id ≡ rowOf f (rowPart f i) .id → part ≡ drop (64 + 64 * i) b
       → linesLeft i ≡ line (interval ∷ id ∷ wordsIn 8 part) ++ linesLeft (i + 1)
   unfolding rowLines
@@ -58,6 +60,7 @@ module _ (f b : List ℕ) (interval : ℕ) where
       ∙ ap₂ (λ k l. line (interval ∷ k ∷ wordsIn 8 l) ++ rowLines interval (rowsLeft f (i + 1)) (drop 64 (drop (64 + 64 * i) b))) (sym e) (sym p)
       ∙ ap (λ l. line (interval ∷ id ∷ wordsIn 8 part) ++ rowLines interval (rowsLeft f (i + 1)) l) (drop-drop 64 (64 + 64 * i) b ∙ ap (λ k. drop k b) place)
 
+  -- behind the last row no line is left
   pub lines-end : (i : ℕ) → headerOf f .rowCount ≤ i → linesLeft i ≡ []
   unfolding rowLines
   lines-end i h = ap (λ rs. rowLines interval rs (drop (64 + 64 * i) b)) (rows-end f i h)
@@ -90,6 +93,7 @@ pub record Settled (f r : List ℕ) : Type 0 where
   pub tables : TablesIn f
   pub room : resultHeaderBytes + resultRowBytes * headerOf f .rowCount ≤ length r
 
+-- a file that settling accepts has its header and tables, and the result has room for its rows
 pub settled : (l f r : List ℕ) → settling l f r .ground ≡ 0 → Settled f r
 unfolding settlingGrounds any resultTooShort
 settled l f r e =
@@ -103,16 +107,19 @@ pub result-cleared : (r : List ℕ) → length r ≡ 64 + 64 * 512 → replicate
 unfolding resultBuffer
 result-cleared r e = ap (λ n. replicate n 0) e
 
+-- a ledger buffer for 512 accounts, filled with zeros, is the one that the listing begins with
 pub ledger-cleared : (l : List ℕ) → length l ≡ 64 + 32 * 512 → replicate (length l) 0 ≡ ledgerBuffer
 unfolding ledgerBuffer ledgerBytes
 ledger-cleared l e = ap (λ n. replicate n 0) e
 
 -- the lines of a block that is refused, and of one that is settled
 module _ (number : ℕ) (file : List ℕ) (a : SettlingAnswer) where
+  -- where the answer is not 0, the line of the refusal is printed
   pub refused-lines : (a .ground ≡ 0 → ⊥) → intervalLines number file a ≡ refusedLine number (a .ground)
   unfolding intervalLines
   refused-lines some = rw (ne-eqb (a .ground) 0 some)
 
+  -- where the answer is 0, the lines of the rows are printed, and then the pool line
   pub settled-lines : a .ground ≡ 0
       → intervalLines number file a ≡ rowLines (headerOf file .interval) (rowsOf file) (drop 64 (a .result)) ++ poolLine (headerOf file .interval) (a .result)
   unfolding intervalLines
@@ -124,6 +131,7 @@ module _ (number ground : ℕ) (l file r after : List ℕ) (zeros : r ≡ result
   abbrev answer : SettlingAnswer
   answer = settling l file resultBuffer
 
+  -- the ground answered is that of the call on the result of zeros
   same : ground ≡ answer .ground
   same = g ∙ ap (λ b. settling l file b .ground) zeros
 
@@ -137,6 +145,7 @@ module _ (number ground : ℕ) (l file r after : List ℕ) (zeros : r ≡ result
     (put ∙ ap (λ k. placedAt 0 k out) is, (omega (arith, ap length is), most)),
   )
 
+  -- a refused interval block, its line placed, comes to the ledger and the bytes listed for it
   pub interval-refused : (end : ℕ) (out y : List ℕ) → (ground ≡ 0 → ⊥) → y ≡ placedAt 0 (refusedLine number ground) out → end ≡ 0 + length (refusedLine number ground) → end ≤ 50
       → (after ≡ intervalListed number l file .ledger)
       × ((y ≡ placedAt 0 (intervalListed number l file .printed) out) × ((end ≡ length (intervalListed number l file .printed)) × (end ≤ 512 * 210 + 110)))
@@ -145,6 +154,7 @@ module _ (number ground : ℕ) (l file r after : List ℕ) (zeros : r ≡ result
       (ap (refusedLine number) same ∙ sym (refused-lines number file answer (λ none. some (same ∙ none))))
       put behind (omega arith)
 
+  -- a settled interval block, its row lines and pool line placed, comes to what is listed for it
   pub interval-settled : (result out x y : List ℕ) (interval m end : ℕ) → ground ≡ 0 → result ≡ settling l file r .result → interval ≡ headerOf file .interval
       → 512 * 210 + 110 ≤ length out → m ≤ 512 * 210 → end ≤ m + 110
       → x ≡ placedAt 0 (rowLines (headerOf file .interval) (rowsOf file) (drop 64 result)) out → m ≡ 0 + length (rowLines (headerOf file .interval) (rowsOf file) (drop 64 result))
@@ -162,9 +172,11 @@ module _ (number ground : ℕ) (l file r after : List ℕ) (zeros : r ≡ result
 
 -- an opening block that has been opened in a ledger l of zeros, and answered with a ground
 module _ (ground : ℕ) (block l after : List ℕ) (zeros : l ≡ ledgerBuffer) (g : ground ≡ opening block l .ground) (e : after ≡ opening block l .ledger) where
+  -- the ground answered is that of the call on the ledger of zeros
   same-ground : ground ≡ opening block ledgerBuffer .ground
   same-ground = g ∙ ap (λ b. opening block b .ground) zeros
 
+  -- a refused opening, its line placed, comes to what is listed for it, and the listing stops
   pub opening-refused : (end : ℕ) (out y : List ℕ) → (ground ≡ 0 → ⊥) → y ≡ placedAt 0 (refusedLine 0 ground) out → end ≡ 0 + length (refusedLine 0 ground) → end ≤ 50
       → (after ≡ openingListed block .ledger)
       × ((y ≡ placedAt 0 (openingListed block .printed) out) × ((end ≡ length (openingListed block .printed)) × ((false ≡ openingListed block .on) × (end ≤ 50))))
@@ -176,6 +188,7 @@ module _ (ground : ℕ) (block l after : List ℕ) (zeros : l ≡ ledgerBuffer) 
         (put ∙ ap (λ k. placedAt 0 k out) is, (omega (arith, ap length is), (sym stops, most))),
       )
 
+  -- an accepted opening comes to the ledger listed for it, prints nothing, and the listing goes on
   pub opening-opened : (out : List ℕ) → ground ≡ 0
       → (after ≡ openingListed block .ledger)
       × ((out ≡ placedAt 0 (openingListed block .printed) out) × ((0 ≡ length (openingListed block .printed)) × ((true ≡ openingListed block .on) × (0 ≤ 50))))

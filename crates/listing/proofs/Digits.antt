@@ -48,10 +48,12 @@ pub decimal-one : (v : ℕ) → v < 10 → decimal v ≡ (48 + v) ∷ []
 unfolding decimal
 decimal-one v h = one-digit 19 v h
 
+-- the digits of one from 10 on are those of its tenth and then its last digit
 pub decimal-more : (v : ℕ) → v < 2 ^ 64 → 10 ≤ v → decimal v ≡ decimal (v / 10) ++ (48 + v % 10) ∷ []
 unfolding decimal
 decimal-more v fits h = more-digits 19 v h ∙ ap (λ ds. ds ++ (48 + v % 10) ∷ []) (same-digits 18 19 (v / 10) (omega arith) (omega arith))
 
+-- a number in decimal takes at most 20 bytes
 pub decimal-most : (v : ℕ) → length (decimal v) ≤ 20
 unfolding decimal
 decimal-most v = digits-most 20 v

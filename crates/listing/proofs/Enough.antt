@@ -20,6 +20,7 @@ front-number (suc n) zero b h = absurd (omega arith)
 front-number (suc n) (suc m) [] h = refl
 front-number (suc n) (suc m) (x ∷ b) h = ap (λ k. x + 256 * k) (front-number n m b (omega arith))
 
+-- the first 32-bit word of a stream is that of its first four bytes or more
 front-word : (m : ℕ) (s : List ℕ) → 4 ≤ m → word32 (take m s) 0 ≡ word32 s 0
 unfolding word32 numberAt
 front-word m s h = front-number 4 m s h
@@ -37,23 +38,28 @@ module _ (block : ℕ) (l s : List ℕ) where
   abbrev pub due : ℕ
   due = bytesDue block (take 4 s)
 
+  -- as many bytes are due as the length says, where it is within the limit
   due-is : 4 ≤ length s → word32 s 0 ≤ mostBytes block → due ≡ word32 s 0
   unfolding word32
   due-is h k = due-whole block (take 4 s) (omega (arith, length-take-le 4 s h)) (mostBytes block) (word32 s 0) refl (sym (front-word 4 s (omega arith))) k
 
   -- where more bytes are left than are read
   module _ (more : 4 + due < length s) where
+    -- the part that is read has four bytes and those due
     front : length (take (4 + due) s) ≡ 4 + due
     front = length-take-le (4 + due) s (omega arith)
 
+    -- its length word is that of the stream
     word : word32 (take (4 + due) s) 0 ≡ word32 s 0
     word = front-word (4 + due) s (omega arith)
 
+    -- where the length is over the limit, the same comes next in the part as in the stream
     over : mostBytes block < word32 s 0 → nextBlock (mostBytes block) (take (4 + due) s) ≡ nextBlock (mostBytes block) s
     over k =
         next-over (mostBytes block) (take (4 + due) s) (λ e. omega (arith, front)) (omega (arith, front)) (omega (arith, word))
         ∙ sym (next-over (mostBytes block) s (λ e. omega arith) (omega arith) k)
 
+    -- where the length is within the limit, the part comes to what the stream comes to
     whole : word32 s 0 ≤ mostBytes block → listed block l (nextBlock (mostBytes block) (take (4 + due) s)) ≡ listed block l (nextBlock (mostBytes block) s)
     unfolding listed
     whole k =
@@ -66,10 +72,12 @@ module _ (block : ℕ) (l s : List ℕ) where
         ∙ ap (blockListed block l) same
         ∙ sym (ap (listed block l) (next-block (mostBytes block) s (λ e. omega arith) (omega arith) k (omega (arith, is))))
 
+    -- the part comes to what the stream comes to, whether the length is over the limit or not
     decide : (t : Bool) → ltb (mostBytes block) (word32 s 0) ≡ t → listed block l (nextBlock (mostBytes block) (take (4 + due) s)) ≡ listed block l (nextBlock (mostBytes block) s)
     decide true e = ap (listed block l) (over (ltb-true (mostBytes block) (word32 s 0) e))
     decide false e = whole (ltb-false (mostBytes block) (word32 s 0) e)
 
+  -- so it does whether or not more bytes are left than are read
   by-length : (t : Bool) → ltb (4 + due) (length s) ≡ t → listed block l (nextBlock (mostBytes block) (take (4 + due) s)) ≡ listed block l (nextBlock (mostBytes block) s)
   by-length true e = decide (ltb-true (4 + due) (length s) e) (ltb (mostBytes block) (word32 s 0)) refl
   by-length false e = ap (λ k. listed block l (nextBlock (mostBytes block) k)) (take-all (4 + due) s (ltb-false (4 + due) (length s) e))

@@ -5,6 +5,7 @@ use Rattle.settling.specs.Listing.{fileWith, row11, row12, row13, row14, listin
 use Rattle.listing.specs.Figures.{counted, headingText, listingText, listingStream, NpalistFigures}
 use Rattle.listing.proofs.Computing.{computing}
 
+-- each worked figure of npalist is what the definitions compute
 pub npalist-figures : NpalistFigures
 unfolding counted headingText listingText listingStream blockWith fileWith row11 row12 row13 row14 listingBlock listingPoints listingFile computing
 npalist-figures = record {

@@ -6,3 +6,4 @@ pub mod LineLaws
 pub mod BlockLaws
 pub mod StreamLaws
 pub mod Enough
+pub mod Budget

@@ -5,8 +5,7 @@ use mathlib.Core.List.{List, [], _∷_, _++_}
 use native.Mathlib.Omega.{arith}
 use lib.ListN.{length, drop, length-append}
 use lib.Seq.{drop-drop}
-use Rattle.words.specs.Words.{number, numberAt, word64, entries}
-use Rattle.year.specs.Claims.{wordsIn}
+use Rattle.words.specs.Words.{number, numberAt, word64, entries, wordsIn}
 use Rattle.listing.specs.Lines.{text, decimal, line, placedAt}
 use Rattle.listing.proofs.Placing.{then-place, place-rest}
 use Rattle.listing.proofs.Digits.{decimal-most}
@@ -22,6 +21,7 @@ pub comma : text "," ≡ 44 ∷ []
 unfolding text
 comma = refl
 
+-- a line of one number is its digits and a newline
 pub last-of-line : (v : ℕ) → line (v ∷ []) ≡ decimal v ++ 10 ∷ []
 unfolding text line
 last-of-line v = refl

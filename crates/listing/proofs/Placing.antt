@@ -5,7 +5,7 @@ use mathlib.Core.List.{List, [], _∷_, _++_, append-assoc, append-nil}
 use native.Mathlib.Numerals.{add-one}
 use native.Mathlib.Nat.{add-zero}
 use native.Mathlib.Omega.{arith}
-use lib.ListN.{length, take, drop, getD, set, length-append, length-drop, take-append-drop, drop-of-length-le}
+use lib.ListN.{length, take, drop, getD, set, length-append, take-append-drop, drop-of-length-le}
 use lib.Seq.{length-take-le, take-at, drop-at, drop-drop, drop-cons, set-split, take-set-le, append-snoc}
 use Rattle.listing.specs.Lines.{placedAt}
 
@@ -18,18 +18,6 @@ place-none at b = rw (append-nil, add-zero) (take-append-drop at b)
 pub place-byte : (at v : ℕ) (b : List ℕ) → at < length b → set b at v ≡ placedAt at (v ∷ []) b
 unfolding placedAt
 place-byte at v b h = set-split b at v h ∙ sym (append-snoc (take at b) v (drop (suc at) b)) ∙ ap (λ k. take at b ++ (v ∷ []) ++ drop k b) (sym (add-one at))
-
--- bytes placed where there is room keep the length
-pub length-placed : (at : ℕ) (bs b : List ℕ) → at + length bs ≤ length b → length (placedAt at bs b) ≡ length b
-unfolding placedAt
-length-placed at bs b h =
-    omega (
-      arith,
-      length-append (take at b ++ bs) (drop (at + length bs) b),
-      length-append (take at b) bs,
-      length-take-le at b (omega arith),
-      length-drop (at + length bs) b,
-    )
 
 -- bytes placed behind bytes that have just been placed
 pub place-more : (at : ℕ) (xs ys b : List ℕ) → at + length xs ≤ length b → placedAt (at + length xs) ys (placedAt at xs b) ≡ placedAt at (xs ++ ys) b

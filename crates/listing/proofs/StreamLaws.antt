@@ -14,27 +14,32 @@ use Rattle.listing.specs.Npalist.{Next, nextBlock, Listed, blockListed, 
 
 -- a stream s, with blocks of at most so many bytes
 module _ (most : ℕ) (s : List ℕ) where
+  -- a stream of no bytes has ended
   pub next-ended : length s ≡ 0 → nextBlock most s ≡ Next.ended
   unfolding nextBlock
   next-ended e = rw (eq-eqb (length s) 0 e)
 
   module _ (some : length s ≡ 0 → ⊥) where
+    -- some bytes, but fewer than four, are a length that is cut
     pub next-cut : length s < 4 → nextBlock most s ≡ Next.cut
     unfolding nextBlock
     next-cut h = rw (ne-eqb (length s) 0 some, lt-ltb (length s) 4 h)
 
     module _ (h : 4 ≤ length s) where
+      -- a length above the limit is over-long
       pub next-over : most < word32 s 0 → nextBlock most s ≡ Next.overLong
       unfolding nextBlock
       next-over k = rw (ne-eqb (length s) 0 some, le-ltb (length s) 4 h, lt-ltb most (word32 s 0) k)
 
       module _ (k : word32 s 0 ≤ most) where
+        -- where fewer bytes stand behind the length than it says, the block is cut
         pub next-short : length s - 4 < word32 s 0 → nextBlock most s ≡ Next.cut
         unfolding nextBlock
         next-short m =
             let less : length (drop 4 s) < word32 s 0 = omega (arith, length-drop 4 s) in
             rw (ne-eqb (length s) 0 some, le-ltb (length s) 4 h, le-ltb most (word32 s 0) k, lt-ltb (length (drop 4 s)) (word32 s 0) less)
 
+        -- where enough do, the block is as many of them as it says, and the rest stand behind it
         pub next-block : word32 s 0 ≤ length s - 4 → nextBlock most s ≡ Next.block (take (word32 s 0) (drop 4 s)) (drop (word32 s 0) (drop 4 s))
         unfolding nextBlock
         next-block m =
@@ -54,6 +59,7 @@ stops l end n on ledger bytes out y e put behind same off most = (
 pub at-first : {A : Type 0} (number : ℕ) (a b : A) → number ≡ 0 → cond (eqb number 0) a b ≡ a
 at-first number a b e = rw (eq-eqb number 0 e)
 
+-- a later block, whose number is not 0, has the second of the two
 pub at-later : {A : Type 0} (number : ℕ) (a b : A) → (number ≡ 0 → ⊥) → cond (eqb number 0) a b ≡ b
 at-later number a b e = rw (ne-eqb number 0 e)
 
@@ -67,23 +73,28 @@ come-to l m end on after out y same e put behind goes most = (
 
 -- what comes next in a stream s, by the tests that are made of it
 module _ (number : ℕ) (l s : List ℕ) where
+  -- what is listed for what comes next in the stream
   abbrev pub nextListed : Listed
   nextListed = listed number l (nextBlock (mostBytes number) s)
 
+  -- at the end of the stream the listing stops, with a cut line if the opening is still due
   pub listed-ended : length s ≡ 0 → nextListed ≡ stopped l (cond (eqb number 0) (cutLine 0) [])
   unfolding listed
   listed-ended e = ap (listed number l) (next-ended (mostBytes number) s e)
 
   module _ (some : length s ≡ 0 → ⊥) where
+    -- a stream cut inside a length stops the listing with a cut line
     pub listed-cut : length s < 4 → nextListed ≡ stopped l (cutLine number)
     unfolding listed
     listed-cut h = ap (listed number l) (next-cut (mostBytes number) s some h)
 
     module _ (h : 4 ≤ length s) (most n : ℕ) (e : most ≡ mostBytes number) (w : n ≡ numberAt 4 s 0) where
+      -- the length read is the first 32-bit word of the stream
       word : n ≡ word32 s 0
       unfolding word32
       word = w
 
+      -- a length over the limit stops the listing with a refusal, on ground 1 for the opening, else on 7
       pub listed-over : (ground : ℕ) → ground ≡ cond (eqb number 0) 1 7 → most < n → nextListed ≡ stopped l (refusedLine number ground)
       unfolding listed
       listed-over ground g k =
@@ -91,10 +102,12 @@ module _ (number : ℕ) (l s : List ℕ) where
           ∙ ap (λ g. stopped l (refusedLine number g)) (sym g)
 
       module _ (k : n ≤ most) where
+        -- a block that is cut stops the listing with a cut line
         pub listed-short : length s - 4 < n → nextListed ≡ stopped l (cutLine number)
         unfolding listed
         listed-short m = ap (listed number l) (next-short (mostBytes number) s some h (omega (arith, word)) (omega (arith, word)))
 
+        -- a whole block has listed for it what its bytes come to
         pub listed-block : n ≤ length s - 4 → nextListed ≡ blockListed number l (take (4 + n - 4) (drop 4 s))
         unfolding listed
         listed-block m =
@@ -104,19 +117,23 @@ module _ (number : ℕ) (l s : List ℕ) where
 
 -- the bytes due behind a length, by the tests that are made of it
 module _ (number : ℕ) (head : List ℕ) where
+  -- no bytes are due behind a length that is cut
   pub due-cut : length head < 4 → bytesDue number head ≡ 0
   unfolding bytesDue
   due-cut h = rw (lt-ltb (length head) 4 h)
 
   module _ (h : 4 ≤ length head) (most n : ℕ) (e : most ≡ mostBytes number) (w : n ≡ numberAt 4 head 0) where
+    -- the length read is the first 32-bit word of the head
     length-word : n ≡ word32 head 0
     unfolding word32
     length-word = w
 
+    -- no bytes are due behind a length over the limit
     pub due-over : most < n → bytesDue number head ≡ 0
     unfolding bytesDue
     due-over k = rw (le-ltb (length head) 4 h, ← length-word, ← e, lt-ltb most n k)
 
+    -- as many bytes are due as the length says, where it is within the limit
     pub due-whole : n ≤ most → bytesDue number head ≡ n
     unfolding bytesDue
     due-whole k = rw (le-ltb (length head) 4 h, ← length-word, ← e, le-ltb most n k)

@@ -39,7 +39,7 @@ heading = text "interval,id,expected,actual,outage,economic,shortfall,bonus,char
 unfoldable pub refusedLine : ℕ → ℕ → List ℕ
 refusedLine block ground = text "refused," ++ line (block ∷ ground ∷ [])
 
--- a stream that ends before the opening, or inside a length or a block
+-- a stream cut off: no opening, or not all of a length or a block
 unfoldable pub cutLine : ℕ → List ℕ
 cutLine block = text "cut," ++ line (block ∷ [])
 

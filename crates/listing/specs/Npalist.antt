@@ -4,13 +4,12 @@ use mathlib.Core.List.{List, [], _∷_, _++_}
 use mathlib.Core.Bool.{Bool, true, false, cond}
 use lib.ListN.{length, take, drop, replicate}
 use lib.Dec.{ltb, eqb}
-use Rattle.words.specs.Words.{word32}
+use Rattle.words.specs.Words.{word32, wordsIn}
 use Rattle.reading.specs.Block.{mostBlockBytes, mostIds}
 use Rattle.reading.specs.Interval.{mostFileBytes, mostRows, Row, headerOf, rowsOf}
 use Rattle.ledger.specs.Ledger.{ledgerBytes}
 use Rattle.ledger.specs.Opening.{opening}
 use Rattle.settling.specs.Settling.{resultHeaderBytes, resultRowBytes, SettlingAnswer, settling}
-use Rattle.year.specs.Claims.{wordsIn}
 use Rattle.listing.specs.Lines.{text, line, heading, refusedLine, cutLine}
 
 -- what comes next in a stream where a length is due
@@ -36,7 +35,7 @@ unfoldable pub rowLines : ℕ → List Row → List ℕ → List ℕ
 rowLines interval [] b = []
 rowLines interval (r ∷ rs) b = line (interval ∷ r .id ∷ wordsIn 8 b) ++ rowLines interval rs (drop resultRowBytes b)
 
--- one pool line an interval: interval, ratio, charges, credits, carried
+-- the pool line of an interval: its number, then ratio, charges, credits and carried from the result
 unfoldable pub poolLine : ℕ → List ℕ → List ℕ
 poolLine interval result = text "pool," ++ line (interval ∷ wordsIn 4 result)
 
@@ -111,6 +110,6 @@ lines (suc budget) number ledger s =
     let l = listed number ledger next in
     l .printed ++ cond (l .on) (lines budget (number + 1) (l .ledger) (after next)) []
 
--- npalist: the heading in any case, then what the blocks of standard input come to; each takes four bytes or more, so no stream uses the budget up
+-- npalist: the heading in any case, then what the blocks of standard input come to; each takes four bytes or more, so no stream uses the budget up (`never-used-up`)
 unfoldable pub npalist : List ℕ → List ℕ
 npalist stream = heading ++ lines (length stream + 1) 0 ledgerBuffer stream

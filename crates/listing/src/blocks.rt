@@ -11,16 +11,14 @@ use reading::interval::ROWS;
 use reading::interval::ROWS_OFFSET;
 use reading::interval::word;
 use settling::call::settle_file;
+use settling::grounds::RESULT_HEADER_BYTES;
+use settling::grounds::RESULT_ROW_BYTES;
 ghost use mathlib.Core.Path.{_≡_};
 ghost use Prim.Native.Nat.{_+_, _*_, _≤_};
 ghost use lib.ListN.{length, drop, replicate};
 ghost use Rattle.reading.specs.Interval.{headerOf, rowsOf};
 ghost use Rattle.listing.specs.Lines.{placedAt};
 ghost use Rattle.listing.specs.Npalist.{rowLines, openingListed, intervalListed, blockListed};
-
-const RESULT_HEADER_BYTES: usize = 64;
-
-const RESULT_ROW_BYTES: usize = 64;
 
 // What a block comes to: the end of the bytes to print, and whether the listing goes on.
 pub struct Listed {
@@ -29,7 +27,7 @@ pub struct Listed {
 }
 
 // Fills a buffer with zeros.
-pub fn clear(buffer: &mut [u8])
+fn clear(buffer: &mut [u8])
     ensures { λ _. ⌜ now (buffer .exit) ≡ replicate (length (now (buffer .entry))) 0 ⌝ }
 {
     let mut i = 0;
@@ -69,7 +67,7 @@ fn put_row_lines(out: &mut [u8], at: usize, file: &[u8], result: &[u8]) -> usize
 }
 
 // Settles an interval file with a result of zeros, and writes its lines, or its refusal; answers where they end.
-pub fn list_interval(
+fn list_interval(
     number: u64,
     ledger: &mut [u8],
     file: &[u8],
@@ -93,7 +91,7 @@ pub fn list_interval(
 }
 
 // Opens a ledger in a buffer of zeros, and writes its refusal, if any.
-pub fn list_opening(block: &[u8], ledger: &mut [u8], out: &mut [u8]) -> Listed
+fn list_opening(block: &[u8], ledger: &mut [u8], out: &mut [u8]) -> Listed
     requires { ⌜ length (now ledger) ≡ 64 + 32 * 512 ⌝ }
     requires { ⌜ 50 ≤ length (now out) ⌝ }
     ensures { λ _. ⌜ now (ledger .exit) ≡ openingListed (now (block .entry)) .ledger ⌝ }

@@ -6,7 +6,7 @@ ghost use mathlib.Core.Path.{_≡_};
 ghost use mathlib.Core.List.{_∷_, [], _++_};
 ghost use Prim.Native.Nat.{_+_, _*_, _≤_, _<_};
 ghost use lib.ListN.{length};
-ghost use Rattle.year.specs.Claims.{wordsIn};
+ghost use Rattle.words.specs.Words.{wordsIn};
 ghost use Rattle.listing.specs.Lines.{text, decimal, line, heading, refusedLine, cutLine, placedAt};
 ghost use Rattle.listing.specs.Npalist.{poolLine};
 
@@ -15,7 +15,7 @@ pub const HEADING: [u8; 74] =
     *b"interval,id,expected,actual,outage,economic,shortfall,bonus,charge,credit\n";
 
 // Writes a byte.
-pub fn put_byte(out: &mut [u8], at: usize, byte: u8) -> usize
+fn put_byte(out: &mut [u8], at: usize, byte: u8) -> usize
     requires { ⌜ at < length (now out) ⌝ }
     ensures { λ _. ⌜ now (out .exit) ≡ placedAt at (byte ∷ []) (now (out .entry)) ⌝ }
     ensures { λ r. ⌜ r ≡ at + 1 ⌝ }
@@ -48,6 +48,17 @@ pub fn put_heading(out: &mut [u8], at: usize) -> usize
     put_text(out, at, &HEADING)
 }
 
+// Writes a number and the byte that ends it.
+fn put_ended(out: &mut [u8], at: usize, v: u64, byte: u8) -> usize
+    requires { ⌜ at + 21 ≤ length (now out) ⌝ }
+    ensures { λ _. ⌜ now (out .exit) ≡ placedAt at (decimal v ++ (byte ∷ [])) (now (out .entry)) ⌝ }
+    ensures { λ r. ⌜ r ≡ at + length (decimal v ++ (byte ∷ [])) ⌝ }
+    ensures { λ r. ⌜ r ≤ at + 21 ⌝ }
+{
+    let end = put_decimal(out, at, v);
+    put_byte(out, end, byte)
+}
+
 // Writes a number and a comma.
 pub fn put_field(out: &mut [u8], at: usize, v: u64) -> usize
     requires { ⌜ at + 21 ≤ length (now out) ⌝ }
@@ -55,8 +66,7 @@ pub fn put_field(out: &mut [u8], at: usize, v: u64) -> usize
     ensures { λ r. ⌜ r ≡ at + length (decimal v ++ text ",") ⌝ }
     ensures { λ r. ⌜ r ≤ at + 21 ⌝ }
 {
-    let end = put_decimal(out, at, v);
-    put_byte(out, end, b',')
+    put_ended(out, at, v, b',')
 }
 
 // Writes the last number of a line and a newline.
@@ -66,8 +76,7 @@ pub fn put_last(out: &mut [u8], at: usize, v: u64) -> usize
     ensures { λ r. ⌜ r ≡ at + length (line (v ∷ [])) ⌝ }
     ensures { λ r. ⌜ r ≤ at + 21 ⌝ }
 {
-    let end = put_decimal(out, at, v);
-    put_byte(out, end, b'\n')
+    put_ended(out, at, v, b'\n')
 }
 
 // Writes the line of a refused block.
@@ -82,7 +91,7 @@ pub fn put_refused(out: &mut [u8], at: usize, block: u64, ground: u64) -> usize
     put_last(out, second, ground)
 }
 
-// Writes the line of a stream that ends before the opening, or inside a length or a block.
+// Writes the line of a stream that is cut off.
 pub fn put_cut(out: &mut [u8], at: usize, block: u64) -> usize
     requires { ⌜ at + 25 ≤ length (now out) ⌝ }
     ensures { λ _. ⌜ now (out .exit) ≡ placedAt at (cutLine block) (now (out .entry)) ⌝ }

@@ -4,6 +4,8 @@ use crate::blocks::Listed;
 use crate::blocks::list_block;
 use crate::lines::put_cut;
 use crate::lines::put_refused;
+use reading::block::MOST_BYTES as MOST_BLOCK_BYTES;
+use reading::interval::MOST_BYTES as MOST_FILE_BYTES;
 use words::word32;
 ghost use mathlib.Core.Path.{_≡_};
 ghost use mathlib.Core.List.{[]};
@@ -14,11 +16,7 @@ ghost use lib.Dec.{eqb};
 ghost use Rattle.listing.specs.Lines.{cutLine, placedAt};
 ghost use Rattle.listing.specs.Npalist.{mostBytes, bytesDue, nextBlock, listed};
 
-const LENGTH_BYTES: usize = 4;
-
-const MOST_BLOCK_BYTES: usize = 4096;
-
-const MOST_FILE_BYTES: usize = 49152;
+pub const LENGTH_BYTES: usize = 4;
 
 // The most bytes of a block.
 fn most_bytes(number: u64) -> usize

@@ -3,6 +3,7 @@
 use libc::STDIN_FILENO;
 use libc::STDOUT_FILENO;
 use listing::lines::put_heading;
+use listing::stream::LENGTH_BYTES;
 use listing::stream::bytes_due;
 use listing::stream::list_next;
 ghost use mathlib.Core.Path.{_≡_};
@@ -10,8 +11,6 @@ ghost use Prim.Native.Nat.{_+_, _*_, _≤_};
 ghost use lib.ListN.{length, take};
 ghost use Rattle.listing.specs.Lines.{placedAt};
 ghost use Rattle.listing.specs.Npalist.{mostBytes, bytesDue, nextBlock, listed};
-
-const LENGTH_BYTES: usize = 4;
 
 // A loop that is proved has to end, and nothing says that standard input does: no stream has so many blocks.
 const MOST_BLOCKS: u64 = 1099511627776;
@@ -73,26 +72,6 @@ fn print(out: &[u8], end: usize) -> bool
     io::write_all(STDOUT_FILENO, &out[..end])
 }
 
-// Reads what comes next, does what it asks for, and prints it; answers whether to go on.
-fn list_one(
-    number: u64,
-    stream: &mut [u8],
-    ledger: &mut [u8],
-    result: &mut [u8],
-    out: &mut [u8],
-) -> bool
-    requires { ⌜ length (now stream) ≡ 4 + 49152 ⌝ }
-    requires { ⌜ length (now ledger) ≡ 64 + 32 * 512 ⌝ }
-    requires { ⌜ length (now result) ≡ 64 + 64 * 512 ⌝ }
-    requires { ⌜ 512 * 210 + 110 ≤ length (now out) ⌝ }
-{
-    let next = next_step(number, stream, ledger, result, out);
-    if !print(out, next.end) {
-        return false;
-    }
-    next.on
-}
-
 // Prints the heading, then block after block, until the listing stops or the output is closed.
 fn run(stream: &mut [u8], ledger: &mut [u8], result: &mut [u8], out: &mut [u8])
     requires { ⌜ length (now stream) ≡ 4 + 49152 ⌝ }
@@ -106,7 +85,11 @@ fn run(stream: &mut [u8], ledger: &mut [u8], result: &mut [u8], out: &mut [u8])
     }
     let mut number = 0;
     while number < MOST_BLOCKS {
-        if !list_one(number, stream, ledger, result, out) {
+        let next = next_step(number, stream, ledger, result, out);
+        if !print(out, next.end) {
+            return;
+        }
+        if !next.on {
             return;
         }
         number += 1;

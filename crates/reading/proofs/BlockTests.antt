@@ -6,65 +6,76 @@ use mathlib.Core.Bool.{true, false, not}
 use lib.ListN.{length, drop, getD}
 use lib.Dec.{ltb, eqb}
 use native.Mathlib.Omega.{arith}
-use borrow.Author.Tests.{lt-ltb, le-ltb, le-leb, lt-leb, eq-eqb, ne-eqb}
-use Rattle.words.specs.Grounds.{outside, liesFrom}
+use borrow.Author.Tests.{le-leb, lt-leb, eq-eqb, ne-eqb}
+use Rattle.words.specs.Grounds.{liesFrom}
 use Rattle.words.specs.Words.{numberAt, word32}
-use Rattle.words.proofs.Tests.{not-leb}
+use Rattle.words.proofs.Tests.{lies-inside, lies-below, lies-above, not-leb}
 use Rattle.words.proofs.Access.{entry-at, numberAt-drop}
 use Rattle.reading.specs.Block.{blockHeaderBytes, mostBlockBytes, mostNetCone, mostIds, idBytes, Terms, blockOf, notABlock, termsOutside, idsMisplaced}
 
 -- ground 1
 module _ (b : List ℕ) where
+  -- ground 1 refuses a block shorter than its five words
   pub block-short : length b < blockHeaderBytes → notABlock b ≡ true
-  unfolding notABlock outside
-  block-short h = rw (lt-ltb (length b) blockHeaderBytes h)
+  unfolding notABlock
+  block-short h = rw (lies-below blockHeaderBytes mostBlockBytes (length b) h)
 
-  pub block-long : blockHeaderBytes ≤ length b → mostBlockBytes < length b → notABlock b ≡ true
-  unfolding notABlock outside
-  block-long low h = rw (le-ltb (length b) blockHeaderBytes low, lt-ltb mostBlockBytes (length b) h)
+  -- ground 1 refuses a block longer than the most bytes
+  pub block-long : mostBlockBytes < length b → notABlock b ≡ true
+  unfolding notABlock
+  block-long h = rw (lies-above blockHeaderBytes mostBlockBytes (length b) h)
 
+  -- at a length in range, word 0 decides ground 1: it must be 1
   pub block-format : blockHeaderBytes ≤ length b → length b ≤ mostBlockBytes → notABlock b ≡ not (eqb (blockOf b .format) 1)
-  unfolding notABlock outside
-  block-format low high = rw (le-ltb (length b) blockHeaderBytes low, le-ltb mostBlockBytes (length b) high)
+  unfolding notABlock
+  block-format low high = rw (lies-inside blockHeaderBytes mostBlockBytes (length b) low high)
 
 -- ground 2
 module _ (t : Terms) where
+  -- ground 2 refuses a Net CONE of 0
   pub cone-low : t .netCone < 1 → termsOutside t ≡ true
-  unfolding termsOutside outside
-  cone-low h = rw (lt-ltb (t .netCone) 1 h)
+  unfolding termsOutside
+  cone-low h = rw (lies-below 1 mostNetCone (t .netCone) h)
 
-  pub cone-high : 1 ≤ t .netCone → mostNetCone < t .netCone → termsOutside t ≡ true
-  unfolding termsOutside outside
-  cone-high low h = rw (le-ltb (t .netCone) 1 low, lt-ltb mostNetCone (t .netCone) h)
+  -- ground 2 refuses a Net CONE above its most
+  pub cone-high : mostNetCone < t .netCone → termsOutside t ≡ true
+  unfolding termsOutside
+  cone-high h = rw (lies-above 1 mostNetCone (t .netCone) h)
 
+  -- with Net CONE in range, ground 2 does not refuse 365 days
   pub days-common : 1 ≤ t .netCone → t .netCone ≤ mostNetCone → t .days ≡ 365 → termsOutside t ≡ false
-  unfolding termsOutside outside
-  days-common low high d = rw (le-ltb (t .netCone) 1 low, le-ltb mostNetCone (t .netCone) high, eq-eqb (t .days) 365 d)
+  unfolding termsOutside
+  days-common low high d = rw (lies-inside 1 mostNetCone (t .netCone) low high, eq-eqb (t .days) 365 d)
 
+  -- with Net CONE in range, days other than 365 must be 366
   pub days-other : 1 ≤ t .netCone → t .netCone ≤ mostNetCone → (t .days ≡ 365 → ⊥) → termsOutside t ≡ not (eqb (t .days) 366)
-  unfolding termsOutside outside
-  days-other low high d = rw (le-ltb (t .netCone) 1 low, le-ltb mostNetCone (t .netCone) high, ne-eqb (t .days) 365 d)
+  unfolding termsOutside
+  days-other low high d = rw (lies-inside 1 mostNetCone (t .netCone) low high, ne-eqb (t .days) 365 d)
 
 -- ground 3, of a block whose number of ids is known
 module _ (b : List ℕ) (n : ℕ) (count : n ≡ blockOf b .idCount) where
+  -- ground 3 refuses a block of no ids
   pub ids-none : n < 1 → idsMisplaced b ≡ true
-  unfolding idsMisplaced outside
-  ids-none h = rw (← count, lt-ltb n 1 h)
+  unfolding idsMisplaced
+  ids-none h = rw (← count, lies-below 1 mostIds n h)
 
-  pub ids-many : 1 ≤ n → mostIds < n → idsMisplaced b ≡ true
-  unfolding idsMisplaced outside
-  ids-many low h = rw (← count, le-ltb n 1 low, lt-ltb mostIds n h)
+  -- ground 3 refuses a block of more than the most ids
+  pub ids-many : mostIds < n → idsMisplaced b ≡ true
+  unfolding idsMisplaced
+  ids-many h = rw (← count, lies-above 1 mostIds n h)
 
   -- and their offset
   module _ (at : ℕ) (offset : at ≡ blockOf b .idsOffset) where
+    -- with a number in range, ground 3 refuses ids that begin within the block's five words
     pub ids-early : 1 ≤ n → n ≤ mostIds → at < blockHeaderBytes → idsMisplaced b ≡ true
-    unfolding idsMisplaced outside liesFrom
-    ids-early low high h = rw (← count, ← offset, le-ltb n 1 low, le-ltb mostIds n high, lt-leb blockHeaderBytes at h)
+    unfolding idsMisplaced liesFrom
+    ids-early low high h = rw (← count, ← offset, lies-inside 1 mostIds n low high, lt-leb blockHeaderBytes at h)
 
+    -- with a number in range, ids that begin behind those words are refused just where they end beyond the block
     pub ids-late : 1 ≤ n → n ≤ mostIds → blockHeaderBytes ≤ at → idsMisplaced b ≡ ltb (length b) (at + idBytes * n)
-    unfolding idsMisplaced outside liesFrom
+    unfolding idsMisplaced liesFrom
     ids-late low high h =
-        rw (← count, ← offset, le-ltb n 1 low, le-ltb mostIds n high, le-leb blockHeaderBytes at h) (not-leb (at + idBytes * n) (length b))
+        rw (← count, ← offset, lies-inside 1 mostIds n low high, le-leb blockHeaderBytes at h) (not-leb (at + idBytes * n) (length b))
 
 -- an id is the word at its place
 pub id-is : (b : List ℕ) (i : ℕ) → i < blockOf b .idCount → getD (blockOf b .ids) i 0 ≡ numberAt 4 b (blockOf b .idsOffset + idBytes * i)

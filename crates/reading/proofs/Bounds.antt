@@ -23,6 +23,7 @@ pub record TermsIn (t : Terms) : Type 0 where
   pub netCone : t .netCone ≤ mostNetCone
   pub days : t .days ≤ leapYear
 
+-- terms that ground 2 does not refuse keep the bounds of Net CONE and days
 pub terms-in : (t : Terms) → termsOutside t ≡ false → TermsIn t
 unfolding termsOutside
 terms-in t e =
@@ -40,6 +41,7 @@ ids-few b e =
     let range : outside 1 mostIds (blockOf b .idCount) ≡ false = search facts in
     not-outside 1 mostIds (blockOf b .idCount) range
 
+-- a block read from bytes has as many ids as word 3 says
 pub length-ids : (b : List ℕ) → length (blockOf b .ids) ≡ blockOf b .idCount
 unfolding blockOf
 length-ids b = length-entries idBytes (λ id. word32 id 0) (word32 b 3) (drop (word32 b 4) b)
@@ -57,6 +59,7 @@ pub record HeaderIn (h : Header) : Type 0 where
   pub interval : h .interval < intervalsPerDay * h .terms .days
   pub imports : natAbs (h .imports) ≤ mostImports
 
+-- a header that ground 9 does not refuse keeps the bounds of its interval and net imports
 pub header-in : (h : Header) → headerOutside h ≡ false → HeaderIn h
 unfolding headerOutside beyond
 header-in h e = record { interval = search facts; imports = search facts }
@@ -68,6 +71,7 @@ rows-few f e =
     let range : outside 1 mostRows (headerOf f .rowCount) ≡ false = search facts depth 9 in
     not-outside 1 mostRows (headerOf f .rowCount) range .1
 
+-- a file read from bytes has as many rows as word 6 of its header says
 pub length-rows : (f : List ℕ) → length (rowsOf f) ≡ headerOf f .rowCount
 unfolding rowsOf
 length-rows f = length-entries rowBytes (rowOf f) (headerOf f .rowCount) (drop (headerOf f .rowsOffset) f)
@@ -80,6 +84,7 @@ pub record RowIn (r : Row) : Type 0 where
   pub metered : natAbs (r .metered) ≤ mostKilowatts
   pub adjustment : natAbs (r .adjustment) ≤ mostKilowatts
 
+-- a row that ground 13 does not refuse keeps within the most kW in the words that RowIn names
 pub row-in : (r : Row) → rowOutside r ≡ false → RowIn r
 unfolding rowOutside any beyond
 row-in r e = record {
@@ -120,6 +125,7 @@ pub record TablesIn (f : List ℕ) : Type 0 where
   pub rows-lie : headerOf f .rowsOffset + rowBytes * headerOf f .rowCount ≤ length f
   pub points-lie : headerOf f .pointsOffset + pointBytes * headerOf f .pointCount ≤ length f
 
+-- tables that ground 11 does not refuse have no more than the most rows and points, and end within the file
 pub tables-in : (f : List ℕ) → tablesMisplaced f ≡ false → TablesIn f
 unfolding tablesMisplaced liesFrom
 tables-in f e = record {

@@ -1,18 +1,17 @@
 -- What a walk over ids that stops at the first one out of order tells.
-use Prim.Native.Nat.{ℕ, suc, _+_, _≤_, _<_}
-use mathlib.Core.Path.{_≡_, refl, ap, _∙_}
+use Prim.Native.Nat.{ℕ, _+_, _≤_, _<_}
+use mathlib.Core.Path.{_≡_, refl, sym, ap, ap₂, _∙_}
 use mathlib.Core.List.{List, [], _∷_}
-use mathlib.Core.Bool.{Bool, true, false, not, _||_, _&&_}
+use mathlib.Core.Bool.{Bool, true, false, not, _||_, _&&_, or-true}
 use native.Mathlib.Numerals.{add-one}
 use native.Mathlib.Omega.{arith}
-use lib.ListN.{length, drop, getD, drop-of-length-le}
+use lib.ListN.{length, drop, getD}
 use lib.Seq.{drop-cons}
 use lib.Dec.{ltb, eqb}
 use borrow.Author.Tests.{lt-ltb, le-ltb, eq-eqb, ne-eqb, ltb-true, ltb-false}
 use Rattle.words.specs.Lists.{any, risesAbove, rises}
 use Rattle.words.proofs.Lists.{none-pass, member-above}
 use Rattle.reading.specs.Block.{idsOutOfOrder}
-use Rattle.reading.proofs.Bools.{or-true}
 
 -- numbers that rise from above one on are not 0
 no-zero : (last : ℕ) (xs : List ℕ) → risesAbove last xs ≡ true → any (λ x. eqb x 0) xs ≡ false
@@ -30,20 +29,25 @@ order-is (x ∷ xs) = by (ltb 0 x) refl (risesAbove x xs) refl
     by false p true q = let zero-id : x ≡ 0 = omega (arith, ltb-false 0 x p) in rw (eq-eqb x 0 zero-id)
     by false p false q = or-true (eqb x 0 || any (λ x. eqb x 0) xs)
 
-module _ (is : List ℕ) (last i : ℕ) (left : risesAbove 0 is ≡ risesAbove last (drop i is)) where
-  -- the id at i is not above the last
-  pub order-broken : i < length is → getD is i 0 ≤ last → idsOutOfOrder is ≡ true
+-- of numbers from i on, the one at i is the next
+pub next-at : (is : List ℕ) (i : ℕ) {id : ℕ} → i < length is → id ≡ getD is i 0 → drop i is ≡ id ∷ drop (i + 1) is
+next-at is i h e = drop-cons is i 0 h ∙ ap₂ (λ x k. x ∷ drop k is) (sym e) (sym (add-one i))
+
+-- whether ids rise depends on those left, above the last
+module _ (is : List ℕ) (last : ℕ) {left : List ℕ} (asks : risesAbove 0 is ≡ risesAbove last left) where
+  -- the next id is not above the last
+  pub order-broken : {id : ℕ} {rest : List ℕ} → left ≡ id ∷ rest → id ≤ last → idsOutOfOrder is ≡ true
   unfolding risesAbove
-  order-broken h low =
-      let stops : risesAbove last (getD is i 0 ∷ drop (suc i) is) ≡ false = rw (le-ltb last (getD is i 0) low) in
-      order-is is ∙ ap not (left ∙ ap (risesAbove last) (drop-cons is i 0 h) ∙ stops)
+  order-broken {id} {rest} turn low =
+      let stops : risesAbove last (id ∷ rest) ≡ false = rw (le-ltb last id low) in
+      order-is is ∙ ap not (asks ∙ ap (risesAbove last) turn ∙ stops)
 
   -- it is, and the walk goes on
-  pub order-goes-on : i < length is → last < getD is i 0 → risesAbove 0 is ≡ risesAbove (getD is i 0) (drop (i + 1) is)
+  pub order-goes-on : {id : ℕ} {rest : List ℕ} → left ≡ id ∷ rest → last < id → risesAbove 0 is ≡ risesAbove id rest
   unfolding risesAbove
-  order-goes-on h up = left ∙ ap (risesAbove last) (drop-cons is i 0 h) ∙ rw (lt-ltb last (getD is i 0) up, add-one)
+  order-goes-on {id} turn up = asks ∙ ap (risesAbove last) turn ∙ rw (lt-ltb last id up)
 
   -- no id is left
-  pub order-holds : length is ≤ i → idsOutOfOrder is ≡ false
+  pub order-holds : left ≡ [] → idsOutOfOrder is ≡ false
   unfolding risesAbove
-  order-holds h = order-is is ∙ ap not (left ∙ ap (risesAbove last) (drop-of-length-le is h))
+  order-holds none = order-is is ∙ ap not (asks ∙ ap (risesAbove last) none)

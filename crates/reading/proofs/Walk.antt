@@ -2,21 +2,21 @@
 use Prim.Native.Nat.{ℕ, zero, suc, _+_, _-_, _*_, _≤_, _<_}
 use mathlib.Core.Path.{_≡_, refl, sym, ap, ap₂, _∙_}
 use mathlib.Core.List.{List, [], _∷_}
-use mathlib.Core.Bool.{Bool, true, false, _||_, _&&_}
+use mathlib.Core.Bool.{Bool, true, false, _||_, _&&_, or-assoc}
 use native.Mathlib.Omega.{arith}
 use borrow.Rule.Slice.PartAt.{part-to-end}
 use borrow.Author.Tests.{lt-ltb}
 use lib.ListN.{length, take, drop}
-use lib.Seq.{drop-drop}
 use lib.Dec.{ltb}
 use lib.Signed.{ltZ}
 use Rattle.words.specs.Lists.{any}
 use Rattle.words.specs.Words.{word32, entries}
 use Rattle.words.specs.Grounds.{answered}
+use Rattle.words.proofs.Lists.{any-turn, any-end}
 use Rattle.words.proofs.Words.{length-entries}
 use Rattle.reading.specs.Interval.{rowBytes, pointBytes, Row, Point, headerOf, pointOf, rowAt, pointsFrom, rowOf, rowsOf, rowOutside, pointOutside, fallsAfter, falls, pointsOutside}
-use Rattle.reading.proofs.Bools.{or-assoc, or-apart, or-then}
-use Rattle.reading.proofs.Tables.{entriesFrom, table-start, table-turn, table-end}
+use Rattle.reading.proofs.Bools.{or-apart, or-then}
+use Rattle.reading.proofs.Tables.{entriesFrom, table-start, table-turn, table-turn-at, table-end}
 use Rattle.reading.proofs.RowTests.{curve-free}
 use Rattle.reading.proofs.CurveTests.{misplaced, pointAt, refused}
 
@@ -37,10 +37,12 @@ module _ (n : ℕ) (c : List ℕ) where
   unfoldable pub curveLeft : ℕ → Bool
   curveLeft j = any pointOutside (pointsLeft j) || falls (pointsLeft (j - 1))
 
+  -- whether any point is out of range or falls is what is left to tell from point 0 on
   pub curve-start : (any pointOutside (entries pointBytes pointOf n c) || falls (entries pointBytes pointOf n c)) ≡ curveLeft 0
   unfolding curveLeft
   curve-start = ap (λ ps. any pointOutside ps || falls ps) (table-start pointBytes pointOf n c)
 
+  -- a fall from point j - 1 on is one to point j, which point 0 cannot have, or one from point j on
   falls-turn : (j : ℕ) → j < n → falls (pointsLeft (j - 1)) ≡ ((ltb 0 j && falls (pointAt c (j - 1) ∷ pointAt c j ∷ [])) || falls (pointsLeft j))
   unfolding falls fallsAfter
   falls-turn zero h = refl
@@ -54,6 +56,7 @@ module _ (n : ℕ) (c : List ℕ) where
       let both : pointsLeft i ≡ p ∷ q ∷ rest = table-turn pointBytes pointOf n c i (omega arith) ∙ ap (λ ps. p ∷ ps) (ap pointsLeft next ∙ later) in
       rw (here, lt-ltb 0 (suc i) (omega arith)) (ap falls both ∙ or-then (ltZ (q .price) (p .price) || ltb (q .kw) (p .kw)) (fallsAfter q rest) ∙ ap (λ ps. falls (p ∷ q ∷ []) || falls ps) (sym later))
 
+  -- what is left from point j on is whether point j is refused, or what is left from j + 1 on
   pub curve-turn : (j : ℕ) → j < n → curveLeft j ≡ (refused c j || curveLeft (j + 1))
   unfolding curveLeft any
   curve-turn j h =
@@ -62,6 +65,7 @@ module _ (n : ℕ) (c : List ℕ) where
       ∙ or-apart (pointOutside (pointAt c j)) (any pointOutside (pointsLeft (j + 1))) (ltb 0 j && falls (pointAt c (j - 1) ∷ pointAt c j ∷ [])) (falls (pointsLeft j))
       ∙ ap (λ k. refused c j || (any pointOutside (pointsLeft (j + 1)) || falls (pointsLeft k))) (sym back)
 
+  -- from the count on, no point is left to be out of range or to fall
   pub curve-end : (j : ℕ) → n ≤ j → curveLeft j ≡ false
   unfolding curveLeft any falls fallsAfter
   curve-end j h =
@@ -78,6 +82,7 @@ module _ (f : List ℕ) where
   abbrev pub rowPart : ℕ → List ℕ
   rowPart k = drop (headerOf f .rowsOffset + rowBytes * k) f
 
+  -- the part to the file's end from row k's place, by the offset as read, is the one that row k begins
   pub row-part : (k : ℕ) {first : ℕ} → first ≡ headerOf f .rowsOffset → take (length f - (first + rowBytes * k)) (drop (first + rowBytes * k) f) ≡ rowPart k
   row-part k {first} e = part-at f (first + rowBytes * k) (headerOf f .rowsOffset + rowBytes * k) (ap (λ at. at + rowBytes * k) e)
 
@@ -85,19 +90,20 @@ module _ (f : List ℕ) where
   unfoldable pub rowsLeft : ℕ → List Row
   rowsLeft = entriesFrom rowBytes (rowOf f) (headerOf f .rowCount) (drop (headerOf f .rowsOffset) f)
 
+  -- before any row is read, all rows of the file are left
   pub rows-start : rowsOf f ≡ rowsLeft 0
   unfolding rowsOf rowsLeft
   rows-start = table-start rowBytes (rowOf f) (headerOf f .rowCount) (drop (headerOf f .rowsOffset) f)
 
+  -- below the count, the rows from k on are row k and those from k + 1 on
   pub rows-turn : (k : ℕ) → k < headerOf f .rowCount → rowsLeft k ≡ rowOf f (rowPart k) ∷ rowsLeft (k + 1)
   unfolding rowsLeft
-  rows-turn k h =
-      table-turn rowBytes (rowOf f) (headerOf f .rowCount) (drop (headerOf f .rowsOffset) f) k h
-      ∙ ap (λ b. rowOf f b ∷ entriesFrom rowBytes (rowOf f) (headerOf f .rowCount) (drop (headerOf f .rowsOffset) f) (k + 1)) (drop-drop (rowBytes * k) (headerOf f .rowsOffset) f)
+  rows-turn = table-turn-at rowBytes (rowOf f) (headerOf f .rowCount) (headerOf f .rowsOffset) f
 
+  -- from the count on, no row is left
   pub rows-end : (k : ℕ) → headerOf f .rowCount ≤ k → rowsLeft k ≡ []
   unfolding rowsLeft
-  rows-end k h = table-end rowBytes (rowOf f) (headerOf f .rowCount) (drop (headerOf f .rowsOffset) f) k h
+  rows-end = table-end rowBytes (rowOf f) (headerOf f .rowCount) (drop (headerOf f .rowsOffset) f)
 
   -- what is answered of grounds 13 and 14
   abbrev pub scanned : ℕ
@@ -105,20 +111,15 @@ module _ (f : List ℕ) where
 
   -- ground 13 depends on the rows from i on
   module _ (i : ℕ) (left : any rowOutside (rowsOf f) ≡ any rowOutside (rowsLeft i)) where
-    row-turn : i < headerOf f .rowCount → any rowOutside (rowsOf f) ≡ (rowOutside (rowAt (rowPart i) []) || any rowOutside (rowsLeft (i + 1)))
-    unfolding any rowOf
-    row-turn h = left ∙ ap (any rowOutside) (rows-turn i h) ∙ ap (λ t. t || any rowOutside (rowsLeft (i + 1))) (curve-free (rowPart i) (pointsFrom f (word32 (rowPart i) 12)) [])
+    -- what row i tells, which reads no points, or the rows after it
+    pub row-turn : (told : Bool) → i < headerOf f .rowCount → rowOutside (rowAt (rowPart i) []) ≡ told → any rowOutside (rowsOf f) ≡ (told || any rowOutside (rowsLeft (i + 1)))
+    unfolding rowOf
+    row-turn told h e = any-turn rowOutside told left (rows-turn i h) (curve-free (rowPart i) (pointsFrom f (word32 (rowPart i) 12)) [] ∙ e)
 
+    -- row i fails ground 13, so the answer is 13
     pub row-fails : i < headerOf f .rowCount → rowOutside (rowAt (rowPart i) []) ≡ true → scanned ≡ 13
     unfolding answered
-    row-fails h e = rw (row-turn h, e)
-
-    pub row-passes : i < headerOf f .rowCount → rowOutside (rowAt (rowPart i) []) ≡ false → any rowOutside (rowsOf f) ≡ any rowOutside (rowsLeft (i + 1))
-    row-passes h e = rw (row-turn h, e)
-
-    pub rows-pass : headerOf f .rowCount ≤ i → any rowOutside (rowsOf f) ≡ false
-    unfolding any
-    rows-pass h = left ∙ ap (any rowOutside) (rows-end i h)
+    row-fails h e = rw (row-turn true h e)
 
   -- the points of row k: their number, and where in the file they begin
   pub record Curve (k count at : ℕ) : Type 0 where
@@ -126,6 +127,7 @@ module _ (f : List ℕ) where
     pub place : at ≡ headerOf f .pointsOffset + pointBytes * word32 (rowPart k) 12
     pub room : pointBytes * count ≤ length f - at
 
+  -- the part to the file's end from where the points of row k begin is the one that its word 12 names
   pub curve-part : {k count at : ℕ} → Curve k count at → take (length f - at) (drop at f) ≡ pointsFrom f (word32 (rowPart k) 12)
   unfolding pointsFrom
   curve-part {k} {count} {at} r = part-at f at (headerOf f .pointsOffset + pointBytes * word32 (rowPart k) 12) (r .place)
@@ -136,50 +138,58 @@ module _ (f : List ℕ) where
     abbrev pub rowCurve : List ℕ
     rowCurve = pointsFrom f (word32 (rowPart k) 12)
 
+    -- the number of points that row k names
     abbrev pub rowPoints : ℕ
     rowPoints = word32 (rowPart k) 13
 
+    -- whether ground 14 refuses a row of the file
     abbrev fails : Row → Bool
     fails = pointsOutside (headerOf f .pointCount)
 
+    -- where a row fails ground 14, the answer is 14
     pub fault-found : any fails (rowsOf f) ≡ true → scanned ≡ 14
     unfolding answered
     fault-found e = rw (good, e)
 
+    -- where no row fails ground 14, the answer is 0
     pub no-fault : any fails (rowsOf f) ≡ false → scanned ≡ 0
     unfolding answered
     no-fault e = rw (good, e)
 
     module _ (left : any fails (rowsOf f) ≡ any fails (rowsLeft k)) where
+      -- ground 14 depends on the number and place of row k's points, on the points, and on the rows after it
       points-turn : k < headerOf f .rowCount
           → any fails (rowsOf f) ≡ ((misplaced rowPoints (word32 (rowPart k) 12) (headerOf f .pointCount) || curveLeft rowPoints rowCurve 0) || any fails (rowsLeft (k + 1)))
-      unfolding any rowOf rowAt pointsOutside
+      unfolding rowOf rowAt pointsOutside
       points-turn h =
           let place = misplaced rowPoints (word32 (rowPart k) 12) (headerOf f .pointCount) in
           let curve = entries pointBytes pointOf rowPoints rowCurve in
-          left
-          ∙ ap (any fails) (rows-turn k h)
-          ∙ ap (λ t. t || any fails (rowsLeft (k + 1)))
+          any-turn fails (place || curveLeft rowPoints rowCurve 0) left (rows-turn k h)
           (or-assoc place (any pointOutside curve) (falls curve) ∙ ap (λ t. place || t) (curve-start rowPoints rowCurve))
 
+      -- the number or place of row k's points is refused, so the answer is 14
       pub curve-fails : k < headerOf f .rowCount → misplaced rowPoints (word32 (rowPart k) 12) (headerOf f .pointCount) ≡ true → scanned ≡ 14
       curve-fails h e = fault-found (rw (points-turn h, e))
 
+      -- number and place of row k's points pass, so its points and the rows after it decide
       pub curve-begins : k < headerOf f .rowCount → misplaced rowPoints (word32 (rowPart k) 12) (headerOf f .pointCount) ≡ false
           → any fails (rowsOf f) ≡ (curveLeft rowPoints rowCurve 0 || any fails (rowsLeft (k + 1)))
       curve-begins h e = rw (points-turn h, e)
 
+      -- no row is left, so the answer is 0
       pub all-pass : headerOf f .rowCount ≤ k → scanned ≡ 0
-      unfolding any
-      all-pass h = no-fault (left ∙ ap (any fails) (rows-end k h))
+      all-pass h = no-fault (any-end fails left (rows-end k h))
 
     -- and on the points of row k from j on
     module _ (j : ℕ) (left : any fails (rowsOf f) ≡ (curveLeft rowPoints rowCurve j || any fails (rowsLeft (k + 1)))) where
+      -- point j of row k is refused, so the answer is 14
       pub point-fails : j < rowPoints → refused rowCurve j ≡ true → scanned ≡ 14
       point-fails h e = fault-found (rw (left, curve-turn rowPoints rowCurve j h, e))
 
+      -- point j of row k is not refused, so the points after it and the rows after row k decide
       pub point-passes : j < rowPoints → refused rowCurve j ≡ false → any fails (rowsOf f) ≡ (curveLeft rowPoints rowCurve (j + 1) || any fails (rowsLeft (k + 1)))
       point-passes h e = rw (left, curve-turn rowPoints rowCurve j h, e)
 
+      -- no point of row k is left, so the rows after it decide
       pub curve-passes : rowPoints ≤ j → any fails (rowsOf f) ≡ any fails (rowsLeft (k + 1))
       curve-passes h = rw (left, curve-end rowPoints rowCurve j h)

@@ -20,7 +20,7 @@ mostBlockBytes = 4096
 abbrev pub blockFormat : ℕ
 blockFormat = 1
 
--- in cents per MW-day
+-- the highest Net CONE, in cents per MW-day
 abbrev pub mostNetCone : ℕ
 mostNetCone = 200000
 
@@ -32,7 +32,7 @@ commonYear = 365
 abbrev pub leapYear : ℕ
 leapYear = 366
 
--- ids of a block, and so accounts of a ledger
+-- the most ids of a block, and so accounts of a ledger
 abbrev pub mostIds : ℕ
 mostIds = 512
 
@@ -75,6 +75,6 @@ termsOutside t = outside 1 mostNetCone (t .netCone) || not (eqb (t .days) common
 unfoldable pub idsMisplaced : List ℕ → Bool
 idsMisplaced b = outside 1 mostIds (blockOf b .idCount) || not (liesFrom blockHeaderBytes (length b) (blockOf b .idsOffset) (idBytes * blockOf b .idCount))
 
--- ground 4: an id is 0, or the ids do not rise strictly
+-- ground 4: an id of 0, or ids that do not rise strictly
 unfoldable pub idsOutOfOrder : List ℕ → Bool
 idsOutOfOrder ids = any (λ id. eqb id 0) ids || not (rises ids)

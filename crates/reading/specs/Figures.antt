@@ -83,7 +83,7 @@ heading interval days regionWide imports = record {
   pointsOffset = 0;
 }
 
--- a file of so many bytes: rows, their offset, points, their offset
+-- a header with so many bytes behind it: rows, their offset, points, their offset
 unfoldable pub tables : ℕ → ℕ → ℕ → ℕ → ℕ → List ℕ
 tables bytes rows rowsOffset points pointsOffset = bytesOfWords 4 (1 ∷ 0 ∷ 0 ∷ 0 ∷ 0 ∷ 0 ∷ rows ∷ rowsOffset ∷ points ∷ pointsOffset ∷ []) ++ replicate bytes 0
 

@@ -35,19 +35,19 @@ fileFormat = 1
 abbrev pub intervalsPerDay : ℕ
 intervalsPerDay = 288
 
--- net imports, in kW
+-- the most net imports, in kW, in or out
 abbrev pub mostImports : ℕ
 mostImports = 40000000
 
--- rows of a file
+-- the most rows of a file
 abbrev pub mostRows : ℕ
 mostRows = 512
 
--- points of a file
+-- the most points of a file
 abbrev pub mostPoints : ℕ
 mostPoints = 2048
 
--- points of a row
+-- the most points of a row
 abbrev pub mostRowPoints : ℕ
 mostRowPoints = 10
 
@@ -55,11 +55,11 @@ mostRowPoints = 10
 abbrev pub lastKind : ℕ
 lastKind = 4
 
--- any kW of a row or a point
+-- the most kW of any word of a row or a point
 abbrev pub mostKilowatts : ℕ
 mostKilowatts = 4000000
 
--- an LMP or a price, in cents per MWh
+-- the highest LMP or price, in cents per MWh, above or below 0
 abbrev pub mostPrice : ℕ
 mostPrice = 1000000
 
@@ -98,7 +98,8 @@ pub record Point : Type 0 where
 unfoldable pub pointOf : List ℕ → Point
 pointOf b = record { price = signed (word32 b 0); kw = word32 b 1 }
 
--- a row: its 14 words (2 to 9 in kW, the LMP in cents per MWh), and the curve that its last two name
+-- a row: its 14 words, and the curve that its last two name. In kW: committed, owned, metered, reserve and regulation adjustment,
+-- planned or maintenance outage, forced outage, emergency maximum, economic minimum; the LMP is in cents per MWh
 pub record Row : Type 0 where
   pub id : ℕ
   pub kind : ℕ
@@ -157,7 +158,7 @@ pub data Kind : Type 0 where
   energyOnly : Kind
   noKind : Kind
 
--- 0 generation or storage, 1 demand resource, 2 energy efficiency, 3 price responsive demand (PRD), 4 energy-only
+-- by the word: 0 generation or storage, 1 demand resource, 2 efficiency, 3 PRD (price responsive), 4 energy-only
 unfoldable pub kindOf : ℕ → Kind
 kindOf k =
     cond (eqb k 0) generation
@@ -208,7 +209,7 @@ unfoldable pub falls : List Point → Bool
 falls [] = false
 falls (p ∷ ps) = fallsAfter p ps
 
--- ground 14, of one row in a file of so many points: the number of its points, their place (word 12 is free if word 13 is 0), or the points themselves
+-- ground 14, of one row in a file of so many points: the number of its points, their place (without points word 12 is free), or the points themselves
 unfoldable pub pointsOutside : ℕ → Row → Bool
 pointsOutside points r =
     ltb mostRowPoints (r .pointCount) || (ltb 0 (r .pointCount) && ltb points (r .firstPoint + r .pointCount))

@@ -8,7 +8,7 @@ ghost use Rattle.reading.specs.Block.{blockOf, notABlock, termsOutside, 
 
 const HEADER_BYTES: usize = 20;
 
-const MOST_BYTES: usize = 4096;
+pub const MOST_BYTES: usize = 4096;
 
 const FORMAT: u64 = 1;
 
@@ -18,7 +18,7 @@ const COMMON_YEAR: u64 = 365;
 
 const LEAP_YEAR: u64 = 366;
 
-const MOST_IDS: u64 = 512;
+pub const MOST_IDS: u64 = 512;
 
 const ID_BYTES: usize = 4;
 
@@ -48,7 +48,7 @@ pub fn id_count(block: &[u8]) -> u64
 }
 
 // The byte offset of the ids.
-pub fn ids_offset(block: &[u8]) -> u64
+fn ids_offset(block: &[u8]) -> u64
     requires { ⌜ 20 ≤ length (now block) ⌝ }
     ensures { λ r. ⌜ r ≡ blockOf (now (block .entry)) .idsOffset ⌝ }
     ensures { λ r. ⌜ r < 4294967296 ⌝ }

@@ -17,11 +17,11 @@ ghost use Rattle.reading.specs.Interval.{rowOf, headerOf, rowAt, rowsOf,
 
 const HEADER_BYTES: usize = 40;
 
-const MOST_BYTES: usize = 49152;
+pub const MOST_BYTES: usize = 49152;
 
 const FILE_FORMAT: u64 = 1;
 
-const INTERVALS_PER_DAY: u64 = 288;
+pub const INTERVALS_PER_DAY: u64 = 288;
 
 const MOST_IMPORTS: u64 = 40000000;
 
@@ -39,7 +39,7 @@ const LAST_KIND: u64 = 4;
 
 const ENERGY_ONLY: u64 = 4;
 
-const MOST_KILOWATTS: u64 = 4000000;
+pub const MOST_KILOWATTS: u64 = 4000000;
 
 const MOST_PRICE: u64 = 1000000;
 

@@ -31,14 +31,17 @@ pub record Accepted (ledger file result : List ℕ) : Type 0 where
   pub room : resultHeaderBytes + resultRowBytes * length (rowsOf file) ≤ length result
   pub pool : pool (assessedFile ledger file) ≤ mostCents
 
+-- a file that ground 8 does not refuse has the ledger's days
 same-days : (ledger file : List ℕ) → otherTerms ledger file ≡ false → headerOf file .terms .days ≡ ledgerOf ledger .terms .days
 unfolding otherTerms
 same-days ledger file e = search facts
 
+-- rows that ground 12 does not refuse rise by id
 rows-rise : (l : Ledger) (rs : List Row) → rowIdsUnknown l rs ≡ false → rises (map (λ r. r .id) rs) ≡ true
 unfolding rowIdsUnknown
 rows-rise l rs e = search facts
 
+-- each of the rows that ground 12 does not refuse has an account of its id
 rows-known : (l : Ledger) (rs : List Row) → rowIdsUnknown l rs ≡ false → (r : Row) → List·Memᴰ r rs → any (λ id. eqb id (r .id)) (idsIn l) ≡ true
 unfolding rowIdsUnknown
 rows-known l rs e r m =
@@ -46,10 +49,12 @@ rows-known l rs e r m =
     let one = none-passes (λ r. not (any (λ id. eqb id (r .id)) (idsIn l))) m all in
     search facts
 
+-- where a call of settling answers 0, none of its grounds applies
 pub settling-none : (ledger file result : List ℕ) → settling ledger file result .ground ≡ 0 → answered (settlingGrounds ledger file result) ≡ 0
 unfolding settling
 settling-none ledger file result e = ground-zero {A = SettlingAnswer} (answered (settlingGrounds ledger file result)) (λ a. a .ground) _ _ refl e
 
+-- where a call of settling answers 0, ledger, file and result buffer are as it accepts them
 pub accepted : (ledger file result : List ℕ) → settling ledger file result .ground ≡ 0 → Accepted ledger file result
 unfolding settlingGrounds any resultTooShort poolTooLarge
 accepted ledger file result e =

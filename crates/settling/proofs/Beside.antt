@@ -33,18 +33,22 @@ pub met : (a : ℕ) (accounts : List ℕ) (r : ℕ) (rows : List ℕ) → r ≡ 
 unfolding unmatched
 met a accounts r rows e = rw (le-ltb r a (omega arith), eq-eqb r a e)
 
+-- a row id above the account's is looked for among the later accounts
 pub passed-by : (a : ℕ) (accounts : List ℕ) (r : ℕ) (rows : List ℕ) → a < r → unmatched (a ∷ accounts) (r ∷ rows) ≡ unmatched accounts (r ∷ rows)
 unfolding unmatched
 passed-by a accounts r rows h = rw (le-ltb r a (omega arith), ne-eqb r a (λ e. omega arith))
 
+-- a row id below the account's is left without an account
 pub missed : (a : ℕ) (accounts : List ℕ) (r : ℕ) (rows : List ℕ) → r < a → unmatched (a ∷ accounts) (r ∷ rows) ≡ true
 unfolding unmatched
 missed a accounts r rows h = rw (lt-ltb r a h)
 
+-- a row is left without an account where no account is left
 pub none-left : (r : ℕ) (rows : List ℕ) → unmatched [] (r ∷ rows) ≡ true
 unfolding unmatched
 none-left r rows = refl
 
+-- where no row is left, none is left without an account
 pub all-met : (accounts : List ℕ) → unmatched accounts [] ≡ false
 unfolding unmatched
 all-met [] = refl

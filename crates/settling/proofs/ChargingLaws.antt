@@ -3,7 +3,7 @@ use Prim.Native.Nat.{ℕ, _+_, _*_, _≤_, _<_, _^_}
 use mathlib.Core.Path.{_≡_, refl, sym, ap, ap₂, subst, _∙_}
 use mathlib.Core.Logic.{_≢_}
 use mathlib.Core.List.{List, [], _∷_, _++_, map, append-assoc, append-nil}
-use mathlib.Core.Bool.{Bool, true, false, cond, true≢false}
+use mathlib.Core.Bool.{Bool, true, false, true≢false}
 use native.Mathlib.Omega.{arith}
 use lib.ListN.{length, take, drop, length-append}
 use lib.Seq.{sets, sets-eq, length-sets, take-at, take-all, length-take-le}
@@ -12,14 +12,15 @@ use borrow.Author.Tests.{ltb-true, ltb-false, ne-eqb}
 use borrow.Rule.Slice.PartAt.{part-to-end}
 use Rattle.words.specs.Lists.{any}
 use Rattle.words.specs.Words.{word32}
-use Rattle.words.proofs.Tests.{not-first, not-second}
+use Rattle.words.proofs.Lists.{none-start, none-turn}
 use Rattle.reading.specs.Block.{Terms}
 use Rattle.reading.specs.Interval.{rowBytes, Row, headerOf, rowAt, rowOf, rowsOf, rowOutside}
 use Rattle.reading.proofs.Bounds.{terms-in, RowIn, row-in}
 use Rattle.reading.proofs.Walk.{rowPart, rowsLeft, rows-start, rows-turn, rows-end}
-use Rattle.assessment.specs.Assessment.{considered, ifConsidered, Ratio, ratioOf, shortfall, expected, RowFigures, rowFigures, Account, raised, limit, fullCharge, charge, ChargedRow, chargedRow, assessed}
-use Rattle.assessment.proofs.SumLaws.{partFrom, part-length, curve-within, fails, fails-start, fails-turn}
+use Rattle.assessment.specs.Assessment.{Ratio, ratioOf, shortfall, expected, RowFigures, rowFigures, Account, raised, charge, ChargedRow, chargedRow, assessed}
+use Rattle.assessment.proofs.SumLaws.{partFrom, part-length, curve-within, fails}
 use Rattle.assessment.proofs.Promises.{figures-in}
+use Rattle.assessment.proofs.ChargeLaws.{charge-reads, charge-considered}
 use Rattle.ledger.specs.Ledger.{ledgerBytes, accountAt, accountCount, ledgerOf, accountOutside}
 use Rattle.settling.specs.Settling.{assessedFile}
 use Rattle.settling.specs.Scratch.{Passed, chargedWords}
@@ -27,36 +28,6 @@ use Rattle.settling.proofs.Beside.{unmatched, met, passed-by, missed, n
 use Rattle.settling.proofs.Meeting.{accountIds, rowIds, chargedTo, chargedBeside, charged-met, charged-passed, charged-own, accounts-rise, all-meet}
 use Rattle.ledger.proofs.Accounts.{accountPart, accountsLeft, accounts-start, accounts-turn, accounts-end}
 use Rattle.ledger.proofs.Sound.{account-in}
-
--- a charge reads of a raised account only its largest commitment and what is charged
-pub charge-raised : (t : Terms) (r : Row) (a : Account) (largest short cents : ℕ)
-    → largest ≡ raised r (record { id = 0; largest = a .largest; charged = 0; credited = 0 }) .largest
-    → cents ≡ charge t (record { id = 0; largest = largest; charged = a .charged; credited = 0 }) short → cents ≡ charge t (raised r a) short
-unfolding charge raised
-charge-raised t r a largest short cents is-largest is-cents =
-    is-cents ∙ ap (λ kw. charge t (record { id = 0; largest = kw; charged = a .charged; credited = 0 }) short) is-largest
-
--- and of the row that raises it only its committed kW
-charge-reads : (t u : Terms) (r s : Row) (a b : Account) (short less : ℕ) → u .netCone ≡ t .netCone → u .days ≡ t .days
-    → s .committed ≡ r .committed → b .largest ≡ a .largest → b .charged ≡ a .charged → less ≡ short
-    → charge u (raised s b) less ≡ charge t (raised r a) short
-unfolding charge raised limit fullCharge
-charge-reads t u r s a b short less cone days committed largest charged same = rw (cone, days, committed, largest, charged, same)
-
--- without a shortfall there is no charge
-no-charge : (t : Terms) (a : Account) → charge t a 0 ≡ 0
-unfolding charge fullCharge
-no-charge t a = omega arith
-
--- so a row that is not considered, which has none, needs no test of its own
-charge-considered : (t : Terms) (q : Ratio) (a : Account) (r : Row)
-    → ifConsidered r (charge t a (rowFigures q r .shortfall)) ≡ charge t a (rowFigures q r .shortfall)
-unfolding ifConsidered rowFigures
-charge-considered t q a r = by (considered r)
-  where
-    by : (v : Bool) → cond v (charge t a (cond v (shortfall r (expected q r)) 0)) 0 ≡ charge t a (cond v (shortfall r (expected q r)) 0)
-    by true = refl
-    by false = sym (no-charge t a)
 
 -- six numbers are a row's figures
 abbrev pub Figured : RowFigures → ℕ → ℕ → ℕ → ℕ → ℕ → ℕ → Type 0
@@ -88,13 +59,6 @@ put-turn ws l rest more all at next e h same left =
     ∙ append-assoc (take at l) ws rest
     ∙ ap (λ rest. take at l ++ rest) (sym same)
     ∙ left
-
--- no member passes: neither the first nor a later one
-none-turn : {A : Type 0} (p : A → Bool) (x : A) (xs all : List A) → all ≡ x ∷ xs → any p all ≡ false → (p x ≡ false) × (any p xs ≡ false)
-unfolding any
-none-turn p x xs all e none =
-    let both = sym (ap (any p) e) ∙ none in
-    (not-first (p x) (any p xs) both, not-second (p x) (any p xs) both)
 
 -- the terms of a ledger
 abbrev termsOf : List ℕ → Terms
@@ -133,9 +97,9 @@ module _ {ledger file : List ℕ} {q : Ratio} {cone days count first : ℕ} wher
         long = long;
         words = ap₂ (λ xs rs. chargedWords (chargedBeside (termsOf ledger) q xs rs)) (sym accounts) (sym left);
         meet = sym (ap₂ (λ xs rs. unmatched (accountIds xs) (rowIds rs)) accounts left) ∙ all-meet ledger file p;
-        rows-in = sym (ap (any rowOutside) left) ∙ p .rows;
-        points-in = fails-start file (p .points);
-        accounts-in = sym (ap (any (accountOutside (termsOf ledger))) accounts) ∙ p .accounts;
+        rows-in = none-start rowOutside left (p .rows);
+        points-in = none-start (fails file) left (p .points);
+        accounts-in = none-start (accountOutside (termsOf ledger)) accounts (p .accounts);
       }
 
   -- no row is left: the words are those of the interval that the file makes of the ledger
@@ -161,12 +125,15 @@ module _ {ledger file : List ℕ} {q : Ratio} {cone days count first : ℕ} wher
     abbrev row : Row
     row = rowOf file (rowPart file i)
 
+    -- account j of the ledger
     abbrev account : Account
     account = accountAt (accountPart ledger j)
 
+    -- the rows after row i
     abbrev rowsOn : List Row
     rowsOn = rowsLeft file (i + 1)
 
+    -- the accounts after account j
     abbrev accountsOn : List Account
     accountsOn = accountsLeft ledger (j + 1)
 
@@ -174,6 +141,7 @@ module _ {ledger file : List ℕ} {q : Ratio} {cone days count first : ℕ} wher
     abbrev start : ℕ
     start = first + rowBytes * i
 
+    -- the bytes of the file from the row's first on
     abbrev part : List ℕ
     part = partFrom file start
 
@@ -181,6 +149,7 @@ module _ {ledger file : List ℕ} {q : Ratio} {cone days count first : ℕ} wher
     on : i < headerOf file .rowCount
     on = omega (arith, w .count-is, taken)
 
+    -- the row begins where the header's offset of the rows puts it
     place : start ≡ headerOf file .rowsOffset + rowBytes * i
     place = ap (λ at. at + rowBytes * i) (w .first-is)
 
@@ -188,9 +157,11 @@ module _ {ledger file : List ℕ} {q : Ratio} {cone days count first : ℕ} wher
     pub row-few : i < 512
     row-few = omega (arith, on, w .passed .rows-few)
 
+    -- it begins no later than the file ends
     pub row-begins : start ≤ length file
     row-begins = omega (arith, on, w .first-is, w .passed .rows-lie)
 
+    -- all 56 of its bytes are there
     pub row-holds : 56 ≤ length part
     row-holds = omega (arith, part-length file start, on, w .first-is, w .passed .rows-lie)
 
@@ -209,6 +180,7 @@ module _ {ledger file : List ℕ} {q : Ratio} {cone days count first : ℕ} wher
     pub account-few : j < 512
     account-few = omega (arith, account-left, w .passed .few)
 
+    -- all 32 bytes of account j lie within the ledger
     pub account-lies : 64 + 32 * j + 32 ≤ length ledger
     unfolding ledgerBytes
     account-lies = omega (arith, account-left, w .passed .room)
@@ -219,20 +191,23 @@ module _ {ledger file : List ℕ} {q : Ratio} {cone days count first : ℕ} wher
 
     -- grounds 13 and 6 do not refuse this row and this account
     row-here : RowIn row
-    row-here = row-in row (none-turn rowOutside row rowsOn (rowsLeft file i) (rows-turn file i on) (w .rows-in) .0)
+    row-here = row-in row (none-turn rowOutside (rows-turn file i on) (w .rows-in) .0)
 
+    -- the account is within the bounds of ground 6, and so are those after it
     accounts-here : (accountOutside (termsOf ledger) account ≡ false) × (any (accountOutside (termsOf ledger)) accountsOn ≡ false)
-    accounts-here = none-turn (accountOutside (termsOf ledger)) account accountsOn (accountsLeft ledger j) (accounts-turn ledger j account-left) (w .accounts-in)
+    accounts-here = none-turn (accountOutside (termsOf ledger)) (accounts-turn ledger j account-left) (w .accounts-in)
 
     -- the row's id and committed kW need no points
     id-here : word32 part 0 ≡ row .id
     unfolding rowOf rowAt
     id-here = ap (λ b. word32 b 0) (part-to-end file start ∙ ap (λ k. drop k file) place)
 
+    -- read without points, the row has the same committed kW
     committed-here : rowAt part [] .committed ≡ row .committed
     unfolding rowOf rowAt
     committed-here = ap (λ b. word32 b 2) (part-to-end file start ∙ ap (λ k. drop k file) place)
 
+    -- those committed kW are at most 4000000
     committed-in : rowAt part [] .committed ≤ 4000000
     committed-in = omega (arith, committed-here, row-here .committed)
 
@@ -273,13 +248,14 @@ module _ {ledger file : List ℕ} {q : Ratio} {cone days count first : ℕ} wher
 
     -- what the callees ask
     pub curve-asks : (40 ≤ length file) × ((56 ≤ length part) × (0 < word32 part 13 → headerOf file .pointsOffset + 8 * (word32 part 12 + word32 part 13) ≤ length file))
-    curve-asks = (w .passed .header, (row-holds, curve-within file i start place (fails-turn file i on (w .points-in) .0) (w .passed .points-lie)))
+    curve-asks = (w .passed .header, (row-holds, curve-within file i start place (none-turn (fails file) (rows-turn file i on) (w .points-in) .0) (w .passed .points-lie)))
 
     module _ (curve : ℕ) (same : rowAt part (drop curve file) ≡ rowOf file part) where
       -- the row in two parts of the file is that of the file
       row-same : rowAt part (partFrom file curve) ≡ row
       row-same = ap (rowAt part) (part-to-end file curve) ∙ same ∙ ap (rowOf file) (part-to-end file start ∙ ap (λ k. drop k file) place)
 
+      -- what the code of a row's figures asks: bytes of the row and its points, committed kW and numerator bounded
       pub figures-asks : {upper : ℕ} → curve + 8 * word32 part 13 ≤ length file → upper ≤ 2 ^ 40
           → (56 ≤ length part) × ((8 * word32 part 13 ≤ length (partFrom file curve)) × ((rowAt part [] .committed ≤ 4000000) × (upper ≤ 2 ^ 40)))
       figures-asks lies few = (row-holds, (omega (arith, part-length file curve, lies), (committed-in, few)))
@@ -287,6 +263,7 @@ module _ {ledger file : List ℕ} {q : Ratio} {cone days count first : ℕ} wher
       -- the figures of the row in two parts of the file, and its account as it is read
       module _ {e a o k s b : ℕ} (figures : Figured (rowFigures q (rowAt part (partFrom file curve))) e a o k s b)
           {id largest charged credited : ℕ} (read : (id ≡ account .id) × (largest ≡ account .largest) × (charged ≡ account .charged) × (credited ≡ account .credited)) where
+        -- what the code of a charge asks: terms, commitments and shortfall within bounds, and the row's bytes
         pub charge-asks : (cone ≤ 200000) × ((days ≤ 366) × ((56 ≤ length part) × ((largest ≤ 4000000) × ((rowAt part [] .committed ≤ 4000000) × (s ≤ 4000000)))))
         charge-asks =
             let in-terms = terms-in (termsOf ledger) (w .passed .terms) in
@@ -318,8 +295,8 @@ module _ {ledger file : List ℕ} {q : Ratio} {cone days count first : ℕ} wher
               long = ap length put ∙ length-sets rows (8 * i) ws ∙ w .long;
               words = ap (λ l. take (8 * (i + 1)) l ++ chargedWords rest) put ∙ put-turn ws rows (chargedWords rest) _ _ (8 * i) (8 * (i + 1)) next room same (w .words);
               meet = sym (met (account .id) (accountIds accountsOn) (row .id) (rowIds rowsOn) own) ∙ meet-here;
-              rows-in = none-turn rowOutside row rowsOn (rowsLeft file i) (rows-turn file i on) (w .rows-in) .1;
-              points-in = fails-turn file i on (w .points-in) .1;
+              rows-in = none-turn rowOutside (rows-turn file i on) (w .rows-in) .1;
+              points-in = none-turn (fails file) (rows-turn file i on) (w .points-in) .1;
               accounts-in = accounts-here .1;
             }
 

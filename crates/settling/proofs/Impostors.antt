@@ -34,6 +34,7 @@ Told program ledger file result = program ledger file result ≡ settling ledger
 pub alwaysRefuses : Program
 alwaysRefuses ledger file result = record { ground = 6; ledger = ledger; result = result }
 
+-- told by the listing's first file, which settling accepts
 pub always-refuses-told : Told alwaysRefuses openedListing (listingFile 1000 0 0) (buffer 320)
 unfolding alwaysRefuses calls
 always-refuses-told same = omega (arith, ap (λ a. a .ground) same)
@@ -42,6 +43,7 @@ always-refuses-told same = omega (arith, ap (λ a. a .ground) same)
 pub fixedAnswer : Program
 fixedAnswer ledger file result = record { ground = 0; ledger = settling ledger file result .ledger; result = settling ledger file result .result }
 
+-- told by a result buffer one byte too short, which settling refuses
 pub fixed-answer-told : Told fixedAnswer openedListing (listingFile 1000 0 0) (buffer 319)
 unfolding fixedAnswer calls
 fixed-answer-told same = omega (arith, ap (λ a. a .ground) same)
@@ -50,6 +52,7 @@ fixed-answer-told same = omega (arith, ap (λ a. a .ground) same)
 pub doesNoWork : Program
 doesNoWork ledger file result = record { ground = settling ledger file result .ground; ledger = ledger; result = result }
 
+-- told by word 3 of the ledger, which settling moves past the interval
 pub does-no-work-told : Told doesNoWork openedListing (listingFile 1000 0 0) (buffer 320)
 unfolding doesNoWork calls
 does-no-work-told same = omega (arith, ap (λ a. word64 (a .ledger) 3) same)
@@ -63,11 +66,12 @@ sixteenTooSoon ledger file result =
     (record { ground = 16; ledger = ledger; result = result })
     (settling ledger file result)
 
+-- told by a full pool and a charge that the limit cuts to 0, which settling accepts
 pub sixteen-too-soon-told : Told sixteenTooSoon fullPool (demandFile 2 0) (buffer 128)
 unfolding sixteenTooSoon calls
 sixteen-too-soon-told same = omega (arith, ap (λ a. a .ground) same)
 
--- settles the first file, and then only moves word 3
+-- settles one file, and at later ones moves word 3 and nothing else
 pub onlyMovesWord3 : Program
 onlyMovesWord3 ledger file result =
     let l = ledgerOf ledger in
@@ -75,6 +79,7 @@ onlyMovesWord3 ledger file result =
     cond (eqb (l .earliest) 0) (settling ledger file result)
     (record { ground = settling ledger file result .ground; ledger = written (ledgerWords moved) ledger; result = result })
 
+-- told by account 12's charged sum after a second file
 pub only-moves-word-3-told : Told onlyMovesWord3 settledListing (listingFile 1001 0 0) (buffer 320)
 unfolding onlyMovesWord3 calls
 only-moves-word-3-told same = omega (arith, ap (λ a. word64 (a .ledger) 14) same)
@@ -89,6 +94,7 @@ resultFirst ledger file result =
       result = cond (eqb (answer .ground) 16) (written (resultWords (assessedFile ledger file)) result) (answer .result);
     }
 
+-- told by word 0 of the result of a call that settling answers with 16
 pub result-first-told : Told resultFirst fullPool (demandFile 3 0) (buffer 128)
 unfolding resultFirst calls
 result-first-told same = omega (arith, ap (λ a. word64 (a .result) 0) same)
@@ -103,6 +109,7 @@ writesBeyond ledger file result =
       result = answer .result;
     }
 
+-- told by byte 192, the first beyond the last account, which settling leaves as it was
 pub writes-beyond-told : Told writesBeyond openedListing (listingFile 1000 0 0) (buffer 320)
 unfolding writesBeyond calls
 writes-beyond-told same = omega (arith, ap (λ a. getD (a .ledger) 192 0) same)
@@ -122,6 +129,7 @@ carriedLeftOut ledger file result =
     let v = assessedFile ledger file in
     settledBy (record { ratio = v .ratio; rows = v .rows; carried = 0 }) ledger file result
 
+-- told by account 13's credited sum after a second file, with a cent carried into it
 pub carried-left-out-told : Told carriedLeftOut settledListing (listingFile 1001 0 0) (buffer 320)
 unfolding carriedLeftOut settledBy calls
 carried-left-out-told same = omega (arith, ap (λ a. word64 (a .ledger) 19) same)
@@ -134,6 +142,7 @@ raisedAfter ledger file result =
     let before : ChargedRow → ChargedRow = λ c. record { row = c .row; figures = c .figures; charge = ifConsidered (c .row) (charge (l .terms) (accountOf (c .row .id) (l .accounts)) (c .figures .shortfall)) } in
     settledBy (record { ratio = v .ratio; rows = map before (v .rows); carried = v .carried }) ledger file result
 
+-- told by account 12's first charge, which a limit of 0 would cut to nothing
 pub raised-after-told : Told raisedAfter openedListing (listingFile 1000 0 0) (buffer 320)
 unfolding raisedAfter settledBy calls
 raised-after-told same = omega (arith, ap (λ a. word64 (a .ledger) 14) same)

@@ -10,10 +10,12 @@ listing : ℕ
 unfolding blockWith listingBlock openedListing ledgerWith fileWith row11 row12 row13 row14 listingPoints listingFile settledListing resultListing settles demandFile holds passedFigures fullPool rowWithPoints rowOfKind settlingFigures orderFigures leaves settledFigures computing
 listing = 0
 
+-- settling the listing's file leaves its ledger and its result, to every byte
 pub listing-holds : ListingHolds
 unfolding listing
 listing-holds = record { settled = refl }
 
+-- all figures of the grounds and of accepted files come out as stated
 pub ground-figures : GroundFigures
 unfolding listing
 ground-figures = record { passed-figures = refl; settling-figures = refl; order-figures = refl; settled-figures = refl }

@@ -21,9 +21,11 @@ use Rattle.reading.proofs.Bounds.{ids-rise}
 abbrev pub accountIds : List Account → List ℕ
 accountIds = map (λ a. a .id)
 
+-- the ids of rows
 abbrev pub rowIds : List Row → List ℕ
 rowIds = map (λ r. r .id)
 
+-- the ids of charged rows
 abbrev pub chargedIds : List ChargedRow → List ℕ
 chargedIds = map (λ c. c .row .id)
 
@@ -38,16 +40,19 @@ chargedBeside t q [] (r ∷ rows) = []
 chargedBeside t q (a ∷ accounts) (r ∷ rows) = cond (eqb (r .id) (a .id)) (chargedTo t q a r ∷ chargedBeside t q accounts rows) (chargedBeside t q accounts (r ∷ rows))
 
 module _ (t : Terms) (q : Ratio) where
+  -- a row with the account's id is charged to it, and both are done
   pub charged-met : (a : Account) (accounts : List Account) (r : Row) (rows : List Row) → r .id ≡ a .id
       → chargedBeside t q (a ∷ accounts) (r ∷ rows) ≡ chargedTo t q a r ∷ chargedBeside t q accounts rows
   unfolding chargedBeside
   charged-met a accounts r rows e = rw (eq-eqb (r .id) (a .id) e)
 
+  -- an account of another id than the row's is passed by, and the row is left
   pub charged-passed : (a : Account) (accounts : List Account) (r : Row) (rows : List Row) → eqb (r .id) (a .id) ≡ false
       → chargedBeside t q (a ∷ accounts) (r ∷ rows) ≡ chargedBeside t q accounts (r ∷ rows)
   unfolding chargedBeside
   charged-passed a accounts r rows e = rw e
 
+  -- a row charged to the account of its id is the row as the assessment charges it
   charged-to-own : (all : List Account) (r : Row) → chargedTo t q (accountOf (r .id) all) r ≡ chargedRow t all q r
   unfolding chargedTo chargedRow
   charged-to-own all r = refl
@@ -82,16 +87,19 @@ postedBeside v (a ∷ accounts) (c ∷ rows) =
     cond (eqb (c .row .id) (a .id)) (posted v c a ∷ postedBeside v accounts rows) (a ∷ postedBeside v accounts (c ∷ rows))
 
 module _ (v : Assessed) where
+  -- a row with the account's id is posted to it, and both are done
   pub posted-met : (a : Account) (accounts : List Account) (c : ChargedRow) (rows : List ChargedRow) → eqb (c .row .id) (a .id) ≡ true
       → postedBeside v (a ∷ accounts) (c ∷ rows) ≡ posted v c a ∷ postedBeside v accounts rows
   unfolding postedBeside
   posted-met a accounts c rows e = rw e
 
+  -- an account of another id than the row's stays as it is, and the row is left
   pub posted-passed : (a : Account) (accounts : List Account) (c : ChargedRow) (rows : List ChargedRow) → eqb (c .row .id) (a .id) ≡ false
       → postedBeside v (a ∷ accounts) (c ∷ rows) ≡ a ∷ postedBeside v accounts (c ∷ rows)
   unfolding postedBeside
   posted-passed a accounts c rows e = rw e
 
+  -- where no row is left, the next account stays as it is
   pub posted-rest : (a : Account) (accounts : List Account) → postedBeside v (a ∷ accounts) [] ≡ a ∷ postedBeside v accounts []
   unfolding postedBeside
   posted-rest a accounts = refl
@@ -109,6 +117,7 @@ module _ (v : Assessed) where
       let next = rises-next k (c .row .id) (chargedIds rows) up in
       rw (not-posted c a (ne-eqb (c .row .id) (a .id) (λ q. omega (arith, next .0)))) (none-posted (c .row .id) rows a (next .1) (omega (arith, next .0)))
 
+  -- posting a row keeps the account's id
   posted-id : (c : ChargedRow) (a : Account) → posted v c a .id ≡ a .id
   unfolding posted raised
   posted-id c a = by (eqb (c .row .id) (a .id))
@@ -131,6 +140,7 @@ module _ (v : Assessed) where
       let next = rises-next k (a .id) (accountIds accounts) up in
       ap₂ _∷_ (ap (postedAll v rows) (not-posted c a (ne-eqb (c .row .id) (a .id) (λ q. omega (arith, next .0))))) (skips (a .id) c rows accounts (next .1) (omega (arith, next .0)))
 
+  -- where no row is left, the walk leaves each account as posting no rows does
   nothing-posted : (accounts : List Account) → postedBeside v accounts [] ≡ map (postedAll v []) accounts
   unfolding postedBeside postedAll
   nothing-posted [] = refl

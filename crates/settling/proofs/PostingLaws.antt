@@ -8,12 +8,12 @@ use borrow.Author.Tests.{lt-ltb, le-ltb, ltb-true, ltb-false}
 use borrow.Rule.Slice.PartAt.{part-to-end}
 use borrow.Rule.Slice.PartMut.{putMid}
 use lib.ListN.{length, take, drop, getD, length-map, length-drop, drop-of-length-le, List·getD-append}
-use lib.Seq.{drop-drop, drop-at, getD-drop, length-take-le}
+use lib.Seq.{drop-drop, getD-drop}
 use lib.Dec.{ltb, eqb}
 use Rattle.words.specs.Lists.{any}
-use Rattle.words.specs.Words.{word32, entries, bytesOfWords, written, writtenAt}
+use Rattle.words.specs.Words.{word32, entries, written, writtenAt}
 use Rattle.words.proofs.Tests.{first-holds, second-holds, not-first, not-second}
-use Rattle.words.proofs.Words.{length-bytesOfWords}
+use Rattle.words.proofs.ReadBack.{beyond-kept}
 use Rattle.words.proofs.Access.{write-more, write-none, written-at-zero, length-writtenAt}
 use Rattle.reading.specs.Interval.{rowBytes, Row, headerOf, rowAt, rowOf, rowsOf}
 use Rattle.reading.proofs.Bounds.{terms-in, length-rows}
@@ -32,9 +32,11 @@ use Rattle.settling.proofs.SettledLaws.{length-row-words}
 
 -- whether row i of a file is there and has an id
 module _ (f : List ℕ) (i n first id : ℕ) (count : n ≡ headerOf f .rowCount) where
+  -- from the number of rows on, there is no row i to have the id
   pub no-row : n ≤ i → false ≡ (ltb i (headerOf f .rowCount) && eqb (rowAt (rowPart f i) [] .id) id)
   no-row h = rw (le-ltb i (headerOf f .rowCount) (omega arith))
 
+  -- below the number of rows, row i is there, and its first word as read tells whether it has the id
   pub row-there : i < n → first ≡ headerOf f .rowsOffset → (w : ℕ) → w ≡ word32 (partFrom f (first + 56 * i)) 0
       → eqb w id ≡ (ltb i (headerOf f .rowCount) && eqb (rowAt (rowPart f i) [] .id) id)
   unfolding rowAt
@@ -74,20 +76,6 @@ pub raised-written : (b x part : List ℕ) (at id largest charged credited cents
 unfolding raised
 raised-written b x part at id largest charged credited cents share kw raise put =
     put ∙ ap (λ kw. writtenAt at (id ∷ kw ∷ (charged + cents) ∷ (credited + share) ∷ []) b) raise
-
--- what lies behind words that have just been written is as it was
-beyond-words : (at : ℕ) (ws b : List ℕ) → at + 8 * length ws ≤ length b → drop (at + 8 * length ws) (writtenAt at ws b) ≡ drop (at + 8 * length ws) b
-unfolding writtenAt written
-beyond-words at ws b h =
-    let front = take at b in
-    let new = bytesOfWords 8 ws in
-    let rest = drop (8 * length ws) (drop at b) in
-    let n : length front ≡ at = length-take-le at b (omega arith) in
-    let m = length-bytesOfWords 8 ws in
-    sym (drop-drop (8 * length ws) at (front ++ (new ++ rest)))
-    ∙ ap (drop (8 * length ws)) (drop-at front (new ++ rest) at n)
-    ∙ drop-at new rest (8 * length ws) m
-    ∙ drop-drop (8 * length ws) at b
 
 -- where no entry of a table passes a test, entry i does not
 entry-fails : {A : Type 0} (p : A → Bool) (size : ℕ) (read : List ℕ → A) (n : ℕ) (b : List ℕ) (i : ℕ) → i < n → any p (entries size read n b) ≡ false → p (read (drop (size * i) b)) ≡ false
@@ -145,6 +133,7 @@ module _ (b f : List ℕ) where
   abbrev pub chargedLeft : ℕ → List ChargedRow
   chargedLeft i = map charged (rowsLeft f i)
 
+  -- row i of the file, charged
   abbrev pub chargedAt : ℕ → ChargedRow
   chargedAt i = charged (rowOf f (rowPart f i))
 
@@ -153,13 +142,16 @@ module _ (b f : List ℕ) where
   unfolding assessedFile assessed
   rows-are = refl
 
+  -- below the number of rows, the charged rows from i on are charged row i and those from i + 1 on
   row-left : (i : ℕ) → i < headerOf f .rowCount → chargedLeft i ≡ chargedAt i ∷ chargedLeft (i + 1)
   row-left i h = ap (map charged) (rows-turn f i h)
 
+  -- the id of charged row i is the one read without its points
   row-id : (i : ℕ) → chargedAt i .row .id ≡ rowAt (rowPart f i) [] .id
   unfolding chargedRow rowOf rowAt
   row-id i = refl
 
+  -- read without its points, row i raises an account as charged row i does
   row-raises : (i : ℕ) (a : Account) → raised (rowAt (rowPart f i) []) a .largest ≡ raised (chargedAt i .row) a .largest
   unfolding raised chargedRow rowOf rowAt
   row-raises i a = refl
@@ -174,11 +166,13 @@ module _ (b f : List ℕ) where
 
   -- the rows' words in scratch
   module _ (rows : List ℕ) (filled : rows ≡ rowWords v (v .rows)) where
+    -- scratch has eight words for each row of the file
     pub rows-long : length rows ≡ 8 * headerOf f .rowCount
     rows-long =
         let n = ap length rows-are ∙ length-map (rowsOf f) charged ∙ length-rows f in
         omega (arith, ap length filled, length-row-words v (v .rows), n)
 
+    -- word k of row i in scratch is word k of charged row i in the result
     word-at : (i k : ℕ) → k < 8 → i < headerOf f .rowCount → getD rows (8 * i + k) 0 ≡ getD (rowWords v (chargedAt i ∷ [])) k 0
     unfolding rowsOf
     word-at i k low h =
@@ -186,10 +180,12 @@ module _ (b f : List ℕ) where
         ∙ row-word v charged rowBytes (rowOf f) k low (headerOf f .rowCount) (drop (headerOf f .rowsOffset) f) i h
         ∙ ap (λ d. getD (rowWords v (charged (rowOf f d) ∷ [])) k 0) (drop-drop (rowBytes * i) (headerOf f .rowsOffset) f)
 
+    -- word 6 of row i in scratch is its charge
     pub charge-at : (i : ℕ) → i < headerOf f .rowCount → getD rows (8 * i + 6) 0 ≡ chargedAt i .charge
     unfolding rowWords
     charge-at i h = word-at i 6 (omega arith) h
 
+    -- word 7 of row i in scratch is its credit
     pub credit-at : (i : ℕ) → i < headerOf f .rowCount → getD rows (8 * i + 7) 0 ≡ credit v (chargedAt i)
     unfolding rowWords
     credit-at i h = word-at i 7 (omega arith) h
@@ -201,6 +197,7 @@ module _ (b f : List ℕ) where
     pub left : writtenAt (64 + 32 * j) (accountWords (postedBeside v (accountsLeft b j) (chargedLeft i))) ledger
         ≡ writtenAt 64 (accountWords (postedBeside v (ledgerOf b .accounts) (v .rows))) b
 
+  -- before any account is written, all accounts and all rows are left
   pub left-start : Left b 0 0
   left-start = record {
     long = refl;
@@ -233,6 +230,7 @@ module _ (b f : List ℕ) where
 
   -- one account more has been written
   module _ (ledger x : List ℕ) (i j k : ℕ) (h : j < accountCount b) (room : 64 + 32 * accountCount b ≤ length b) (s : Left ledger i j) where
+    -- where the four words put are the first of those left, the accounts from j + 1 on are left to write
     written-turn : (id largest charge credit : ℕ) → x ≡ writtenAt (64 + 32 * j) (id ∷ largest ∷ charge ∷ credit ∷ []) ledger
         → accountWords (postedBeside v (accountsLeft b j) (chargedLeft i)) ≡ (id ∷ largest ∷ charge ∷ credit ∷ []) ++ accountWords (postedBeside v (accountsLeft b (j + 1)) (chargedLeft k))
         → Left x k (j + 1)
@@ -244,7 +242,7 @@ module _ (b f : List ℕ) where
         let rest = accountWords (postedBeside v (accountsLeft b (j + 1)) (chargedLeft k)) in
         record {
           long = ap length put ∙ length-writtenAt at four ledger fits ∙ s .long;
-          later = rw (next, put) (beyond-words at four ledger fits ∙ sym (drop-drop 32 at ledger) ∙ ap (drop 32) (s .later) ∙ drop-drop 32 at b);
+          later = rw (next, put) (beyond-kept at four ledger fits ∙ sym (drop-drop 32 at ledger) ∙ ap (drop 32) (s .later) ∙ drop-drop 32 at b);
           left = rw (next, put) (write-more at four rest ledger fits ∙ ap (λ ws. writtenAt at ws ledger) (sym words) ∙ s .left);
         }
 

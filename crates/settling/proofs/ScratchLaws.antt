@@ -14,6 +14,7 @@ more-left : (n i : ℕ) → i < n → n - i ≡ suc (n - (i + 1))
 more-left n i h = omega arith
 
 module _ (ws : List ℕ) where
+  -- eight words on from row i, row i + 1 begins
   eight-on : (i : ℕ) → drop 8 (drop (8 * i) ws) ≡ drop (8 * (i + 1)) ws
   eight-on i =
       let next : 8 * i + 8 ≡ 8 * (i + 1) = omega arith in
@@ -23,6 +24,7 @@ module _ (ws : List ℕ) where
   pub sum-of-start : (k n : ℕ) → 0 + sumOfWord k (n - 0) (drop (8 * 0) ws) ≡ sumOfWord k n ws
   sum-of-start k n = let front : 8 * 0 ≡ 0 = omega arith in rw (front, sub-zero n) (omega arith)
 
+  -- with word k of row i added to the sum so far, what is left is the sum over the rows after it
   pub sum-of-turn : (k n i so all : ℕ) → i < n → so + sumOfWord k (n - i) (drop (8 * i) ws) ≡ all
       → so + getD ws (8 * i + k) 0 + sumOfWord k (n - (i + 1)) (drop (8 * (i + 1)) ws) ≡ all
   unfolding sumOfWord
@@ -31,6 +33,7 @@ module _ (ws : List ℕ) where
       = ap (λ m. sumOfWord k m (drop (8 * i) ws)) (more-left n i h) ∙ ap₂ (λ w rest. w + sumOfWord k (n - (i + 1)) rest) (getD-drop (8 * i) ws k 0) (eight-on i) in
       omega (arith, here, left)
 
+  -- where no row is left, the sum so far is the whole sum
   pub sum-of-end : (k n i so all : ℕ) → n ≤ i → so + sumOfWord k (n - i) (drop (8 * i) ws) ≡ all → so ≡ all
   unfolding sumOfWord
   sum-of-end k n i so all h left =
@@ -51,9 +54,11 @@ module _ (cents total n : ℕ) where
   abbrev pub creditsLeft : List ℕ → ℕ → List ℕ
   creditsLeft ws i = take (8 * i) ws ++ withCredits cents total (n - i) (drop (8 * i) ws)
 
+  -- before any row is credited, all n rows are left to credit
   pub credit-start : (ws : List ℕ) → creditsLeft ws 0 ≡ withCredits cents total n ws
   credit-start ws = let front : 8 * 0 ≡ 0 = omega arith in rw (front, sub-zero n)
 
+  -- with row i's share put in its word 7, crediting the rows after it makes the same words
   pub credit-turn : (ws : List ℕ) (i v : ℕ) → i < n → length ws ≡ 8 * n → v ≡ share cents total (getD ws (8 * i + 5) 0) → creditsLeft (set ws (8 * i + 7) v) (i + 1) ≡ creditsLeft ws i
   unfolding withCredits
   credit-turn ws i v h long e =
@@ -69,6 +74,7 @@ module _ (cents total n : ℕ) where
       ∙ ap (λ l. take (8 * i) ws ++ l) (append-assoc (take 7 (drop (8 * i) ws)) (v ∷ []) later ∙ ap (λ w. take 7 (drop (8 * i) ws) ++ (w ∷ later)) due)
       ∙ ap (λ m. take (8 * i) ws ++ withCredits cents total m (drop (8 * i) ws)) (sym (more-left n i h))
 
+  -- where no row is left to credit, the words stay as they are
   pub credit-end : (ws : List ℕ) (i : ℕ) → n ≤ i → creditsLeft ws i ≡ ws
   unfolding withCredits
   credit-end ws i h =

@@ -31,11 +31,13 @@ unfolding sumOfWord chargedWords sum
 sum-of-charges [] = refl
 sum-of-charges (c ∷ cs) = ap (λ s. c .charge + s) (sum-of-charges cs)
 
+-- word 5, summed over charged rows, is the sum of their bonuses
 pub sum-of-bonus : (cs : List ChargedRow) → sumOfWord 5 (length cs) (chargedWords cs) ≡ sum (λ c. c .figures .bonus) cs
 unfolding sumOfWord chargedWords sum
 sum-of-bonus [] = refl
 sum-of-bonus (c ∷ cs) = ap (λ s. c .figures .bonus + s) (sum-of-bonus cs)
 
+-- word 7, summed over rows of the result, is the sum of their credits
 pub sum-of-credits : (v : Assessed) (cs : List ChargedRow) → sumOfWord 7 (length cs) (rowWords v cs) ≡ sum (credit v) cs
 unfolding sumOfWord rowWords sum
 sum-of-credits v [] = refl
@@ -47,6 +49,7 @@ unfolding chargedWords
 length-charged [] = refl
 length-charged (c ∷ cs) = omega (arith, length-charged cs)
 
+-- rows of the result have eight words each too
 pub length-row-words : (v : Assessed) (cs : List ChargedRow) → length (rowWords v cs) ≡ 8 * length cs
 unfolding rowWords
 length-row-words v [] = refl
@@ -56,9 +59,11 @@ length-row-words v (c ∷ cs) = omega (arith, length-row-words v cs)
 record AllAtMost (most : ℕ) (ws : List ℕ) : Type 0 where
   pub each : (k : ℕ) → getD ws k 0 ≤ most
 
+-- of no words, each is at most so much
 none-at-most : (most : ℕ) → AllAtMost most []
 none-at-most most = record { each = λ k. omega arith }
 
+-- with one more word of at most so much in front, each still is
 cons-at-most : (most w : ℕ) (ws : List ℕ) → w ≤ most → AllAtMost most ws → AllAtMost most (w ∷ ws)
 cons-at-most most w ws h later = record { each = by }
   where
@@ -114,26 +119,33 @@ account-largest t i (a ∷ accounts) e =
 
 -- what is known of the interval that a file makes of a ledger, where grounds 6 to 14 do not apply
 module _ (ledger file : List ℕ) (p : Passed ledger file) where
+  -- the interval that the file makes of the ledger
   abbrev v : Assessed
   v = assessedFile ledger file
 
+  -- a row, charged to its account in the ledger
   abbrev own : Row → ChargedRow
   own = chargedRow (ledgerOf ledger .terms) (ledgerOf ledger .accounts) (ratioOf (headerOf file) (rowsOf file))
 
+  -- the interval's rows are the file's, each charged to its account
   pub rows-are : v .rows ≡ map own (rowsOf file)
   unfolding assessedFile assessed
   rows-are = refl
 
+  -- the interval's ratio is that of the numerator and the denominator of the file
   pub ratio-is : v .ratio ≡ record { numerator = numerator (headerOf file) (rowsOf file); denominator = denominator (rowsOf file) }
   unfolding assessedFile assessed ratioOf
   ratio-is = refl
 
+  -- the interval has as many rows as the header says
   pub count-is : length (v .rows) ≡ headerOf file .rowCount
   count-is = ap length rows-are ∙ length-map (rowsOf file) own ∙ length-rows file
 
+  -- each row of the file is within the bounds of ground 13
   row-is : (r : Row) → List·Memᴰ r (rowsOf file) → RowIn r
   row-is = rows-in (rowsOf file) (p .rows)
 
+  -- the numerator is at most 2 to the power of 40
   pub numerator-fits : numerator (headerOf file) (rowsOf file) ≤ 2 ^ 40
   numerator-fits =
       omega (arith, numerator-le (headerOf file) (rowsOf file) (header-in (headerOf file) (p .header-in)) (omega (arith, length-rows file, p .rows-few)) row-is)
@@ -144,6 +156,7 @@ module _ (ledger file : List ℕ) (p : Passed ledger file) where
     pub charge : c .charge ≤ mostLimit
     pub credit : credit v c ≡ share (pool v) (totalBonus v) (c .figures .bonus)
 
+  -- a row's charge is no more than the largest limit
   own-charge : (r : Row) → RowIn r → own r .charge ≤ mostLimit
   unfolding chargedRow
   own-charge r i =
@@ -153,10 +166,12 @@ module _ (ledger file : List ℕ) (p : Passed ledger file) where
       let kw : max (a .largest) (r .committed) ≤ mostKilowatts = omega (arith, account-largest t (r .id) (ledgerOf ledger .accounts) (p .accounts), i .committed) in
       omega (arith, if-le r (charge t (raised r a) short), charge-le t r a short, limit-le t (max (a .largest) (r .committed)) (terms-in t (p .terms)) kw)
 
+  -- a row's figures are within their bounds
   own-figures : (r : Row) → RowIn r → FiguresIn (own r .figures)
   unfolding chargedRow
   own-figures r i = figures-in (ratioOf (headerOf file) (rowsOf file)) r i
 
+  -- each row of the interval is so: bounded figures, a bounded charge, and its share of the pool as credit
   row-known : (c : ChargedRow) → List·Memᴰ c (v .rows) → RowKnown c
   unfolding assessedFile assessed
   row-known c m =
@@ -172,14 +187,17 @@ module _ (ledger file : List ℕ) (p : Passed ledger file) where
   unfolding charges
   charges-sum = ap (λ n. sumOfWord 6 n (chargedWords (v .rows))) (sym count-is) ∙ sum-of-charges (v .rows)
 
+  -- word 5, summed over the charged rows in scratch, is the total bonus
   pub bonus-sum : sumOfWord 5 (headerOf file .rowCount) (chargedWords (v .rows)) ≡ totalBonus v
   unfolding totalBonus
   bonus-sum = ap (λ n. sumOfWord 5 n (chargedWords (v .rows))) (sym count-is) ∙ sum-of-bonus (v .rows)
 
+  -- word 7, summed over the rows of the result, is the sum of the credits
   pub credits-sum : sumOfWord 7 (headerOf file .rowCount) (rowWords v (v .rows)) ≡ credits v
   unfolding credits
   credits-sum = ap (λ n. sumOfWord 7 n (rowWords v (v .rows))) (sym count-is) ∙ sum-of-credits v (v .rows)
 
+  -- the charges come to no more than the largest limit for each of the most rows
   pub charges-fit : charges v ≤ mostRows * mostLimit
   unfolding charges
   charges-fit =
@@ -187,6 +205,7 @@ module _ (ledger file : List ℕ) (p : Passed ledger file) where
       let few : length (v .rows) ≤ mostRows = omega (arith, count-is, p .rows-few) in
       omega (arith, all, mul-le-mul-right mostLimit few)
 
+  -- the total bonus is no more than twice the most kW for each of the most rows
   pub bonus-fits : totalBonus v ≤ mostRows * (2 * mostKilowatts)
   unfolding totalBonus
   bonus-fits =
@@ -194,6 +213,7 @@ module _ (ledger file : List ℕ) (p : Passed ledger file) where
       let few : length (v .rows) ≤ mostRows = omega (arith, count-is, p .rows-few) in
       omega (arith, all, mul-le-mul-right (2 * mostKilowatts) few)
 
+  -- the bonus word of each row is at most 8000000
   pub each-bonus : (i : ℕ) → getD (chargedWords (v .rows)) (8 * i + 5) 0 ≤ 8000000
   each-bonus = bonus-words 8000000 (v .rows) (λ c m. row-known c m .figures .bonus)
 
@@ -201,6 +221,7 @@ module _ (ledger file : List ℕ) (p : Passed ledger file) where
   pub credited : withCredits (pool v) (totalBonus v) (headerOf file .rowCount) (chargedWords (v .rows)) ≡ rowWords v (v .rows)
   credited = ap (λ n. withCredits (pool v) (totalBonus v) n (chargedWords (v .rows))) (sym count-is) ∙ credited-words v (v .rows) (λ c m. row-known c m .credit)
 
+  -- rows with known bounds and credits of no more than the most cents have no word above the most cents
   words-at-most : (cs : List ChargedRow) → ((c : ChargedRow) → List·Memᴰ c cs → RowKnown c × (credit v c ≤ mostCents)) → AllAtMost mostCents (rowWords v cs)
   unfolding rowWords
   words-at-most [] each = none-at-most mostCents
@@ -212,6 +233,7 @@ module _ (ledger file : List ℕ) (p : Passed ledger file) where
       let mid = cons-at-most mostCents (c .figures .economic) _ (omega (arith, f .economic)) (cons-at-most mostCents (c .figures .shortfall) _ (omega (arith, f .shortfall)) (cons-at-most mostCents (c .figures .bonus) _ (omega (arith, f .bonus)) last)) in
       cons-at-most mostCents (c .figures .expected) _ (omega (arith, f .expected)) (cons-at-most mostCents (c .figures .actual) _ (omega (arith, f .actual)) (cons-at-most mostCents (c .figures .outage) _ (omega (arith, f .outage)) mid))
 
+  -- where the pool is not too large, no word of the rows in the result is above the most cents
   pub each-word : pool v ≤ mostCents → (k : ℕ) → getD (rowWords v (v .rows)) k 0 ≤ mostCents
   unfolding credits
   each-word small = words-at-most (v .rows) (λ c m. (row-known c m, omega (arith, member-le (credit v) m, credits-le v, small))) .each
@@ -237,34 +259,44 @@ module _ (ledger file : List ℕ) (p : Passed ledger file) where
   -- what the sums over scratch words require, and what they come to
   module _ (ws : List ℕ) (n : ℕ) (rows : n ≡ headerOf file .rowCount) where
     module _ (words : ws ≡ chargedWords (v .rows)) where
+      -- the charged rows in scratch have eight words each
       charged-length : length ws ≡ 8 * n
       charged-length = ap length words ∙ length-charged (v .rows) ∙ ap (λ k. 8 * k) (count-is ∙ sym rows)
 
+      -- word 6, summed over scratch, is the sum of the charges
       pub charges-are : sumOfWord 6 n ws ≡ charges v
       charges-are = ap₂ (sumOfWord 6) rows words ∙ charges-sum
 
+      -- what summing word 6 requires: eight words a row, a word number below 8, and a sum that does not wrap
       pub charges-required : (length ws ≡ 8 * n) × ((6 < 8) × (sumOfWord 6 n ws < 2 ^ 64))
       charges-required = (charged-length, (omega arith, omega (arith, charges-are, charges-fit)))
 
+      -- word 5, summed over scratch, is the total bonus
       pub bonus-is : sumOfWord 5 n ws ≡ totalBonus v
       bonus-is = ap₂ (sumOfWord 5) rows words ∙ bonus-sum
 
+      -- what summing word 5 requires: eight words a row, a word number below 8, and a sum that does not wrap
       pub bonus-required : (length ws ≡ 8 * n) × ((5 < 8) × (sumOfWord 5 n ws < 2 ^ 64))
       bonus-required = (charged-length, (omega arith, omega (arith, bonus-is, bonus-fits)))
 
+      -- what crediting the rows requires: eight words a row, and bounds on the cents and on each bonus word
       pub credit-required : (cents : ℕ) → cents ≤ mostCents → (length ws ≡ 8 * n) × ((cents ≤ 1099511627775) × ((i : ℕ) → getD ws (8 * i + 5) 0 ≤ 8000000))
       credit-required cents small = (charged-length, (small, λ i. rw words (each-bonus i)))
 
+      -- crediting scratch out of the pool, by the bonus summed, makes the rows' words of the result
       pub credited-is : (cents bonus : ℕ) → cents ≡ pool v → bonus ≡ sumOfWord 5 n ws → withCredits cents bonus n ws ≡ rowWords v (v .rows)
       credited-is cents bonus e f = (λ k. withCredits (e k) ((f ∙ bonus-is) k) (rows k) (words k)) ∙ credited
 
     module _ (words : ws ≡ rowWords v (v .rows)) where
+      -- the credited rows in scratch have eight words each
       pub credited-length : length ws ≡ 8 * n
       credited-length = ap length words ∙ length-row-words v (v .rows) ∙ ap (λ k. 8 * k) (count-is ∙ sym rows)
 
+      -- word 7, summed over scratch, is the sum of the credits
       pub credits-are : sumOfWord 7 n ws ≡ credits v
       credits-are = ap₂ (sumOfWord 7) rows words ∙ credits-sum
 
+      -- what summing word 7 requires, which holds where the pool is not too large
       pub credits-required : pool v ≤ mostCents → (length ws ≡ 8 * n) × ((7 < 8) × (sumOfWord 7 n ws < 2 ^ 64))
       credits-required small = (credited-length, (omega arith, omega (arith, credits-are, credits-le v, small)))
 
@@ -273,6 +305,7 @@ module _ (ledger file : List ℕ) (p : Passed ledger file) where
   unfolding carriedOn
   rest-is cents given e f = ap₂ _-_ e f
 
+  -- the credits are no more than the pool, so that taking them from it does not wrap
   pub given-le : (cents given : ℕ) → cents ≡ pool v → given ≡ credits v → given ≤ cents
   given-le cents given e f = omega (arith, e, f, credits-le v)
 

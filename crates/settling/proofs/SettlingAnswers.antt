@@ -18,10 +18,12 @@ settledAnswer ledger file result = record {
   result = written (resultWords (assessedFile ledger file)) result;
 }
 
+-- where no ground of settling applies, the call answers 0 and writes the settled ledger and the result
 pub settling-accepts : (ledger file result : List ℕ) → answered (settlingGrounds ledger file result) ≡ 0 → settling ledger file result ≡ settledAnswer ledger file result
 unfolding settling
 settling-accepts ledger file result e = rw (eq-eqb (answered (settlingGrounds ledger file result)) 0 e)
 
+-- where a ground of settling applies, the call answers it and leaves both buffers as they were
 pub settling-refuses : (ledger file result : List ℕ) → eqb (answered (settlingGrounds ledger file result)) 0 ≡ false
     → settling ledger file result ≡ record { ground = answered (settlingGrounds ledger file result); ledger = ledger; result = result }
 unfolding settling

@@ -71,10 +71,12 @@ accounts-lie l e = rw (length-accounts l) at (ledger-room l e)
 
 -- ground 8: Net CONE of the file and of the ledger, then their days
 module _ (l f : List ℕ) (cone ours : ℕ) (e : cone ≡ word32 f 2) (k : ours ≡ word64 l 1) where
+  -- where Net CONE differs, ground 8 refuses
   pub cone-other : (cone ≡ ours → ⊥) → otherTerms l f ≡ true
   unfolding otherTerms headerOf ledgerOf
   cone-other h = rw (← e, ← k, ne-eqb cone ours h)
 
+  -- where Net CONE is the same, ground 8 refuses just if the days differ
   pub days-decide : cone ≡ ours → (days same : ℕ) → days ≡ word32 f 3 → same ≡ word64 l 2 → otherTerms l f ≡ not (eqb days same)
   unfolding otherTerms headerOf ledgerOf
   days-decide h days same d m = rw (← e, ← k, ← d, ← m, eq-eqb cone ours h)
@@ -90,6 +92,7 @@ module _ (l f : List ℕ) where
   abbrev pub unknownLeft : ℕ → ℕ → Bool
   unknownLeft i j = unmatched (accountIds (accountsLeft l j)) (rowIds (rowsLeft f i))
 
+  -- where the account ids are in order, ground 12 says what the walk from row 0 and account 0 does
   pub unknown-start : idsOutOfOrder (idsIn (ledgerOf l)) ≡ false → rowIdsUnknown (ledgerOf l) (rowsOf f) ≡ unknownLeft 0 0
   unfolding rowIdsUnknown idsIn
   unknown-start e =
@@ -100,23 +103,27 @@ module _ (l f : List ℕ) where
 
   -- whether row i has an account, where the accounts before j have other rows or none
   module _ (i j : ℕ) (left : rowIdsUnknown (ledgerOf l) (rowsOf f) ≡ unknownLeft i j) where
+    -- where row i is there and no account is left, ground 12 refuses
     pub row-beyond : i < headerOf f .rowCount → accountCount l ≤ j → rowIdsUnknown (ledgerOf l) (rowsOf f) ≡ true
     row-beyond row none =
         left
         ∙ ap₂ (λ accounts rows. unmatched (accountIds accounts) (rowIds rows)) (accounts-end l j none) (rows-turn f i row)
         ∙ none-left (rowOf f (rowPart f i) .id) (rowIds (rowsLeft f (i + 1)))
 
+    -- where no row is left, ground 12 does not refuse
     pub rows-met : headerOf f .rowCount ≤ i → rowIdsUnknown (ledgerOf l) (rowsOf f) ≡ false
     rows-met none = left ∙ ap (λ rows. unmatched (accountIds (accountsLeft l j)) (rowIds rows)) (rows-end f i none) ∙ all-met (accountIds (accountsLeft l j))
 
     -- the ids of account j and of row i
     module _ (account : j < accountCount l) (row : i < headerOf f .rowCount) (a id : ℕ) (m : a ≡ accountAt (accountPart l j) .id) (n : id ≡ rowOf f (rowPart f i) .id) where
+      -- ground 12 says what the walk does from account j and row i, by their ids as read, and those after them
       both : rowIdsUnknown (ledgerOf l) (rowsOf f) ≡ unmatched (a ∷ accountIds (accountsLeft l (j + 1))) (id ∷ rowIds (rowsLeft f (i + 1)))
       both =
           left
           ∙ ap₂ (λ accounts rows. unmatched (accountIds accounts) (rowIds rows)) (accounts-turn l j account) (rows-turn f i row)
           ∙ ap₂ (λ a id. unmatched (a ∷ accountIds (accountsLeft l (j + 1))) (id ∷ rowIds (rowsLeft f (i + 1)))) (sym m) (sym n)
 
+      -- where row i's id is below account j's, ground 12 refuses
       pub row-missed : id < a → rowIdsUnknown (ledgerOf l) (rowsOf f) ≡ true
       row-missed h = both ∙ missed a (accountIds (accountsLeft l (j + 1))) id (rowIds (rowsLeft f (i + 1))) h
 
@@ -127,6 +134,7 @@ module _ (l f : List ℕ) where
           ∙ met a (accountIds (accountsLeft l (j + 1))) id (rowIds (rowsLeft f (i + 1))) h
           ∙ ap (λ k. unknownLeft k (j + 1)) (sym e)
 
+      -- where row i's id is above account j's, the same row is left, and the accounts after j
       pub row-later : a < id → (k : ℕ) → k ≡ i → rowIdsUnknown (ledgerOf l) (rowsOf f) ≡ unknownLeft k (j + 1)
       row-later h k e =
           both
@@ -146,36 +154,43 @@ module _ (l f r : List ℕ) where
   abbrev pub beforePool : ℕ
   beforePool = answered (take 10 (settlingGrounds l f r))
 
+  -- a buffer that is not a ledger is answered 6
   pub settling-6 : notALedger l ≡ true → beforePool ≡ 6
   unfolding answered settlingGrounds
   settling-6 e = rw e
 
   module _ (e₆ : notALedger l ≡ false) where
+    -- past ground 6, bytes that are not a file are answered 7
     pub settling-7 : notAFile f ≡ true → beforePool ≡ 7
     unfolding answered settlingGrounds
     settling-7 e = rw (e₆, e)
 
     module _ (e₇ : notAFile f ≡ false) where
+      -- past grounds 6 and 7, a Net CONE or days other than the ledger's are answered 8
       pub settling-8 : otherTerms l f ≡ true → beforePool ≡ 8
       unfolding answered settlingGrounds
       settling-8 e = rw (e₆, e₇, e)
 
       module _ (e₈ : otherTerms l f ≡ false) where
+        -- past grounds 6 to 8, a header out of range is answered 9
         pub settling-9 : headerOutside (headerOf f) ≡ true → beforePool ≡ 9
         unfolding answered settlingGrounds
         settling-9 e = rw (e₆, e₇, e₈, e)
 
         module _ (e₉ : headerOutside (headerOf f) ≡ false) where
+          -- past grounds 6 to 9, an interval before the ledger's earliest is answered 10
           pub settling-10 : headerOf f .interval < ledgerOf l .earliest → beforePool ≡ 10
           unfolding answered settlingGrounds tooEarly
           settling-10 h = rw (e₆, e₇, e₈, e₉, lt-ltb (headerOf f .interval) (ledgerOf l .earliest) h)
 
           module _ (h₁₀ : ledgerOf l .earliest ≤ headerOf f .interval) where
+            -- past grounds 6 to 10, misplaced tables are answered 11
             pub settling-11 : tablesMisplaced f ≡ true → beforePool ≡ 11
             unfolding answered settlingGrounds
             settling-11 e = rw (e₆, e₇, e₈, e₉, in-time l f h₁₀, e)
 
             module _ (e₁₁ : tablesMisplaced f ≡ false) where
+              -- past grounds 6 to 11, row ids that do not rise or have no account are answered 12
               pub settling-12 : rowIdsUnknown (ledgerOf l) (rowsOf f) ≡ true → beforePool ≡ 12
               unfolding answered settlingGrounds
               settling-12 e = rw (e₆, e₇, e₈, e₉, in-time l f h₁₀, e₁₁, e)
@@ -195,24 +210,29 @@ module _ (l f r : List ℕ) (t : Tested l f) where
   abbrev lastGrounds : List (Bool × ℕ)
   lastGrounds = (any rowOutside (rowsOf f), 13) ∷ (any (pointsOutside (headerOf f .pointCount)) (rowsOf f), 14) ∷ (resultTooShort f r, 15) ∷ []
 
+  -- past grounds 6 to 12, the answer of grounds 6 to 15 is that of 13 to 15
   last-decide : beforePool l f r ≡ answered lastGrounds
   unfolding answered settlingGrounds
   last-decide = rw (t .ledger, t .file, t .terms, t .header, in-time l f (t .interval), t .tables, t .ids)
 
+  -- past grounds 6 to 12, what the scan of the rows answers, 13 or 14, is answered
   pub settling-scan : (scanned f ≡ 0 → ⊥) → beforePool l f r ≡ scanned f
   settling-scan some = last-decide ∙ answered-front 2 lastGrounds (ne-eqb (scanned f) 0 some)
 
   module _ (e : scanned f ≡ 0) where
+    -- past grounds 6 to 14, a result buffer too short for the rows is answered 15
     pub settling-15 : length r < resultHeaderBytes + resultRowBytes * headerOf f .rowCount → beforePool l f r ≡ 15
     unfolding answered resultTooShort
     settling-15 h = rw (last-decide, scanned-none f e .0, scanned-none f e .1, lt-ltb (length r) (resultHeaderBytes + resultRowBytes * headerOf f .rowCount) h)
 
+    -- past grounds 6 to 14, a result buffer with room for the rows is answered 0
     pub settling-0 : resultHeaderBytes + resultRowBytes * headerOf f .rowCount ≤ length r → beforePool l f r ≡ 0
     unfolding answered resultTooShort
     settling-0 h = rw (last-decide, scanned-none f e .0, scanned-none f e .1, le-ltb (length r) (resultHeaderBytes + resultRowBytes * headerOf f .rowCount) h)
 
 -- what the answer of grounds 6 to 15 says of a call
 module _ (l f r : List ℕ) where
+  -- where grounds 6 to 15 answer 0, ledger and file are as settling relies on
   pub passed : beforePool l f r ≡ 0 → Passed l f
   unfolding settlingGrounds any
   passed e =
@@ -238,6 +258,7 @@ module _ (l f r : List ℕ) where
         points = search facts depth 14;
       }
 
+  -- where grounds 6 to 15 answer 0, the result buffer has room for all rows
   pub result-room : beforePool l f r ≡ 0 → resultHeaderBytes + resultRowBytes * headerOf f .rowCount ≤ length r
   unfolding settlingGrounds any resultTooShort
   result-room e =
@@ -256,10 +277,12 @@ module _ (l f r : List ℕ) where
   unfolding settlingGrounds any answered
   pool-decides e = answered-rest 10 (settlingGrounds l f r) refl e
 
+  -- a pool that is too large is answered 16, and both buffers stay as they were
   pub refused-16 : beforePool l f r ≡ 0 → poolTooLarge (assessedFile l f) ≡ true → settling l f r ≡ record { ground = 16; ledger = l; result = r }
   refused-16 e p =
       let same : answered (settlingGrounds l f r) ≡ 16 = pool-decides e ∙ ap (λ (t : Bool). cond t 16 0) p in
       settling-refuses l f r (ap (λ (g : ℕ). eqb g 0) same) ∙ ap (λ (g : ℕ). record { ground = g; ledger = l; result = r }) same
 
+  -- with a pool that is not too large, the call is accepted
   pub accepted-all : beforePool l f r ≡ 0 → poolTooLarge (assessedFile l f) ≡ false → settling l f r ≡ settledAnswer l f r
   accepted-all e p = settling-accepts l f r (pool-decides e ∙ ap (λ (t : Bool). cond t 16 0) p)

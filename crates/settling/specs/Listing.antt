@@ -8,7 +8,7 @@ use Rattle.words.specs.Figures.{Figure, _gives_, AllAsStated}
 use Rattle.ledger.specs.Figures.{buffer, openedListing, ledgerWith}
 use Rattle.settling.specs.Settling.{settling}
 
--- a file of format 1 on those terms: interval, region-wide, net imports, the rows' words and the points' words
+-- a file of format 1: Net CONE, days, interval, region-wide, net imports, the rows' words and the points' words
 unfoldable pub fileWith : ℕ → ℕ → ℕ → ℕ → ℕ → List ℕ → List ℕ → List ℕ
 fileWith netCone days interval regionWide imports rows points =
     let header : List ℕ = 1 ∷ interval ∷ netCone ∷ days ∷ regionWide ∷ imports ∷ (length rows / 14) ∷ 40 ∷ (length points / 2) ∷ (40 + 4 * length rows) ∷ [] in
@@ -78,7 +78,7 @@ demandFile id metered = fileWith 200000 366 7 0 0 (id ∷ 1 ∷ 4000000 ∷ 0 �
 unfoldable pub holds : List ℕ → ℕ
 holds ledger = settling ledger (demandFile 2 4000000) (buffer 128) .ground
 
--- a ledger that ground 6 passes, and what the grounds after it say
+-- ledgers that take the file, and that refuse it on 6, 10 and 12
 unfoldable pub passedFigures : List Figure
 passedFigures =
     holds (ledgerWith 1 7 0 8 0 (1 ∷ 0 ∷ 0 ∷ 0 ∷ 2 ∷ 0 ∷ 0 ∷ 0 ∷ [])) gives 0

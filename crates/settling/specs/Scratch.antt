@@ -11,7 +11,7 @@ use Rattle.assessment.specs.Assessment.{ChargedRow, share}
 use Rattle.ledger.specs.Ledger.{ledgerOf, ledgerBytes, accountCount, idsIn, accountOutside}
 use Rattle.settling.specs.Settling.{rowIdsUnknown}
 
--- a ledger and a file that grounds 6 to 14 do not refuse
+-- what settling relies on of a ledger and a file that grounds 6 to 14 do not refuse
 pub record Passed (ledger file : List ℕ) : Type 0 where
   pub room : ledgerBytes (accountCount ledger) ≤ length ledger
   pub few : accountCount ledger ≤ mostIds

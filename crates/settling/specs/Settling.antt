@@ -43,11 +43,11 @@ otherTerms ledger file =
     let u = headerOf file .terms in
     not (eqb (u .netCone) (t .netCone)) || not (eqb (u .days) (t .days))
 
--- ground 10: the interval is below the ledger's word 3
+-- ground 10: the interval is before the earliest that the ledger accepts, its word 3
 unfoldable pub tooEarly : List ℕ → List ℕ → Bool
 tooEarly ledger file = ltb (headerOf file .interval) (ledgerOf ledger .earliest)
 
--- ground 12: row ids do not rise strictly, or one is not in the ledger
+-- ground 12: row ids do not rise strictly, or a row has no account
 unfoldable pub rowIdsUnknown : Ledger → List Row → Bool
 rowIdsUnknown l rs = not (rises (map (λ r. r .id) rs)) || any (λ r. not (any (λ id. eqb id (r .id)) (idsIn l))) rs
 

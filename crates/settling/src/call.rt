@@ -14,6 +14,7 @@ use assessment::rules::portion;
 use assessment::sums::ratio_sides;
 use assessment::units::Cents;
 use assessment::units::Kilowatts;
+use ledger::held::MOST_CENTS;
 use ledger::layout::ACCOUNTS;
 use ledger::layout::CARRIED;
 use ledger::layout::DAYS;
@@ -33,8 +34,6 @@ ghost use Rattle.assessment.specs.Assessment.{numerator, denominator, charges, 
 ghost use Rattle.ledger.specs.Ledger.{ledgerWords};
 ghost use Rattle.settling.specs.Settling.{assessedFile, rowWords, resultWords, settledLedger, settlingGrounds, settling as settlingOf};
 ghost use Rattle.settling.specs.Scratch.{Passed, chargedWords};
-
-const MOST_CENTS: u64 = 1099511627775;
 
 const MILLIONTHS: u64 = 1000000;
 

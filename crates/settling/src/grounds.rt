@@ -29,9 +29,9 @@ ghost use Rattle.reading.specs.Interval.{headerOf, rowsOf};
 ghost use Rattle.ledger.specs.Ledger.{ledgerOf, ledgerBytes, accountCount, idsIn};
 ghost use Rattle.settling.specs.Settling.{otherTerms, rowIdsUnknown, settlingGrounds};
 
-const RESULT_HEADER_BYTES: usize = 64;
+pub const RESULT_HEADER_BYTES: usize = 64;
 
-const RESULT_ROW_BYTES: usize = 64;
+pub const RESULT_ROW_BYTES: usize = 64;
 
 // Ground 8.
 fn other_terms(ledger: &[u8], file: &[u8]) -> bool

@@ -15,6 +15,7 @@ use assessment::sums::ratio_sides;
 use assessment::units::Cents;
 use assessment::units::Kilowatts;
 use reading::interval::COMMITTED;
+use reading::interval::MOST_KILOWATTS;
 use reading::interval::POINT_COUNT;
 use reading::interval::ROW_BYTES;
 use reading::interval::header_outside;
@@ -30,8 +31,6 @@ use shown::print::figure;
 use shown::print::test;
 ghost use Prim.Native.Nat.{_≤_};
 ghost use lib.ListN.{length};
-
-const MOST_KILOWATTS: u64 = 4000000;
 
 // Any numerator is below it.
 const MOST_UPPER: u64 = 1099511627776;

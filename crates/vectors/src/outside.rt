@@ -1,4 +1,4 @@
-// Figures of the trade's sources, by the number of the source, under document 01's rules. A published rate that is rounded to the nearest cent stands here rounded down.
+// Figures of the trade's sources under document 01's rules: PJM's review of the October 2019 event, the settlement summary, and section 10A of the tariff. A published rate that is rounded to the nearest cent stands here rounded down.
 
 use crate::cases::show_charge;
 use crate::cases::show_figures;
@@ -62,14 +62,24 @@ fn row_at(lmp: u64) -> Row {
     [1, 0, 0, 0, 0, 0, 0, 0, 0, 0, 0, lmp, 0, 0]
 }
 
-// Table 6 of source 000: 1000 kW short, in 366 days.
+// Table 6 of the review: 1000 kW short, in 366 days.
 pub fn rates() {
-    show_full_charge(b"000 Table 6, RTO, Net CONE 27955: ", 27955, 366, 1000);
-    show_full_charge(b"000 Table 6, BGE, Net CONE 20139: ", 20139, 366, 1000);
-    show_full_charge(b"000 Table 6, PEPCO, Net CONE 22811: ", 22811, 366, 1000);
-    show_full_charge(b"000 Table 6, SWMAAC, Net CONE 21475: ", 21475, 366, 1000);
+    show_full_charge(b"review, Table 6, RTO, Net CONE 27955: ", 27955, 366, 1000);
+    show_full_charge(b"review, Table 6, BGE, Net CONE 20139: ", 20139, 366, 1000);
+    show_full_charge(
+        b"review, Table 6, PEPCO, Net CONE 22811: ",
+        22811,
+        366,
+        1000,
+    );
+    show_full_charge(
+        b"review, Table 6, SWMAAC, Net CONE 21475: ",
+        21475,
+        366,
+        1000,
+    );
     show_share(
-        b"000 Table 9, 14:00, credit of bonus 1000: ",
+        b"review, Table 9, 14:00, credit of bonus 1000: ",
         36909733,
         10854700,
         1000,
@@ -78,10 +88,10 @@ pub fn rates() {
 
 // The limit of 1000 kW at those rates.
 pub fn limits() {
-    show_limit(b"002:294, RTO, limit of 1000 kW: ", 27955, 366, 1000);
-    show_limit(b"002:294, BGE, limit of 1000 kW: ", 20139, 366, 1000);
-    show_limit(b"002:294, PEPCO, limit of 1000 kW: ", 22811, 366, 1000);
-    show_limit(b"002:294, SWMAAC, limit of 1000 kW: ", 21475, 366, 1000);
+    show_limit(b"10A(f), RTO, limit of 1000 kW: ", 27955, 366, 1000);
+    show_limit(b"10A(f), BGE, limit of 1000 kW: ", 20139, 366, 1000);
+    show_limit(b"10A(f), PEPCO, limit of 1000 kW: ", 22811, 366, 1000);
+    show_limit(b"10A(f), SWMAAC, limit of 1000 kW: ", 21475, 366, 1000);
 }
 
 fn economic_sides() -> Sides {
@@ -99,31 +109,57 @@ pub fn rows() {
     let both = economic_sides();
     let upper = both.upper;
     let lower = both.lower;
-    show_portion(b"001:229, ratio in millionths: ", 1000000, upper, lower);
-    show_figures(b"001:229, row: ", ECONOMIC, &ECONOMIC_POINTS, upper, lower);
+    show_portion(
+        b"summary, economic row's ratio in millionths: ",
+        1000000,
+        upper,
+        lower,
+    );
     show_figures(
-        b"001:231, solar row: ",
+        b"summary, economic row: ",
+        ECONOMIC,
+        &ECONOMIC_POINTS,
+        upper,
+        lower,
+    );
+    show_figures(
+        b"summary, solar row: ",
         SOLAR,
         &SOLAR_POINT,
         Kilowatts(1),
         Kilowatts(1),
     );
-    show_charge(b"001:231, solar row, charge: ", 5000, 0, 5000);
+    show_charge(b"summary, solar row, charge: ", 5000, 0, 5000);
 }
 
 pub fn curve_ends() {
-    show_scheduled(b"001:203, online, LMP 999: ", on_curve(1, 999), &CURVE);
-    show_scheduled(b"001:203, offline, LMP 999: ", on_curve(0, 999), &CURVE);
-    show_scheduled(b"001:203, online, LMP 6001: ", on_curve(1, 6001), &CURVE);
+    show_scheduled(
+        b"summary, curve, online, LMP 999: ",
+        on_curve(1, 999),
+        &CURVE,
+    );
+    show_scheduled(
+        b"summary, curve, offline, LMP 999: ",
+        on_curve(0, 999),
+        &CURVE,
+    );
+    show_scheduled(
+        b"summary, curve, online, LMP 6001: ",
+        on_curve(1, 6001),
+        &CURVE,
+    );
 }
 
 // The event of 2 October 2019, from 14:00 to 15:55, and LMPs of that day.
 pub fn ranges() {
     show_header_outside(b"calendar, interval 35592, ground 9: ", header(35592));
     show_header_outside(b"calendar, interval 35615, ground 9: ", header(35615));
-    show_row_outside(b"000 Figure 14, LMP 364416, ground 13: ", row_at(364416));
     show_row_outside(
-        b"000 Figure 16, LMP -2906, ground 13: ",
+        b"review, Figure 14, LMP 364416, ground 13: ",
+        row_at(364416),
+    );
+    show_row_outside(
+        b"review, Figure 16, LMP -2906, ground 13: ",
         row_at(0x1_0000_0000 - 2906),
     );
 }

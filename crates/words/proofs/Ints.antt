@@ -3,10 +3,10 @@ use Prim.Native.Nat.{ℕ, zero, suc, _+_, _-_, _≤_, _<_}
 use mathlib.Core.Bool.{Bool, true, false, cond}
 use mathlib.Core.Path.{_≡_, refl, sym, ap, subst, _∙_}
 use native.Mathlib.Omega.{arith}
-use borrow.Author.Tests.{leb-true, leb-false, ltb-false, le-leb, le-ltb, lt-ltb}
+use borrow.Author.Tests.{leb-true, leb-false, le-leb, le-ltb, lt-ltb}
 use lib.Dec.{T, ltb}
 use lib.IntN.{ℤ, pos, negsuc, subℕ, natAbs, _+ℤ_, _-ℤ_}
-use lib.Signed.{leZ, ltZ, mag}
+use lib.Signed.{leZ, mag}
 use mir.Syntax.{w64}
 use mir.Val.{toZ, ofZ}
 use mir.ValLaws.{toZ-ofZ}
@@ -22,12 +22,15 @@ gapOf (pos a) (negsuc b) = a + suc b
 gapOf (negsuc a) (pos b) = 0
 gapOf (negsuc a) (negsuc b) = b - a
 
+-- anything follows where false is true, which closes the cases that cannot be
 pub never {ℓ} : {X : Type ℓ} → false ≡ true → X
 never e = absurd (subst T (sym e) tt)
 
+-- a number less another that is not larger is their difference, and not negative
 sub-pos : (a b : ℕ) → b ≤ a → subℕ a b ≡ pos (a - b)
 sub-pos a b h = rw (le-ltb a b h)
 
+-- where b is at or below a, a less b is the gap between them
 pub diff : (a b : ℤ) → leZ b a ≡ true → a -ℤ b ≡ pos (gapOf a b)
 diff (pos a) (pos zero) e = ap pos (omega arith)
 diff (pos a) (pos (suc b)) e = sub-pos a (suc b) (leb-true (suc b) a e)
@@ -39,6 +42,7 @@ diff (negsuc a) (negsuc b) e = sub-pos (suc b) (suc a) (omega (arith, leb-true a
 pub natAbs-diff : (a b : ℤ) → leZ b a ≡ true → natAbs (a -ℤ b) ≡ gapOf a b
 natAbs-diff a b e = ap natAbs (diff a b e)
 
+-- a gap is at most the sizes of both numbers and 1
 pub gap-le : (a b : ℤ) → gapOf a b ≤ mag a + mag b + 1
 gap-le (pos a) (pos b) = omega arith
 gap-le (pos a) (negsuc b) = omega arith
@@ -55,6 +59,7 @@ gap-lt (negsuc p) (pos l) (negsuc q) e f = never (sym f)
 gap-lt (negsuc p) (negsuc l) (pos q) e f = omega arith
 gap-lt (negsuc p) (negsuc l) (negsuc q) e f = omega (arith, leb-true, leb-false)
 
+-- where p and q have sizes below n, so has l, which is between them
 pub mag-between : (n : ℕ) (p l q : ℤ) → leZ p l ≡ true → leZ q l ≡ false → mag p < n → mag q < n → mag l < n
 mag-between n (pos p) (pos l) (pos q) e f h k = omega (arith, leb-true, leb-false)
 mag-between n (pos p) (pos l) (negsuc q) e f h k = never (sym f)
@@ -63,13 +68,7 @@ mag-between n (negsuc p) (pos l) (pos q) e f h k = omega (arith, leb-false)
 mag-between n (negsuc p) (pos l) (negsuc q) e f h k = never (sym f)
 mag-between n (negsuc p) (negsuc l) q e f h k = omega (arith, leb-true)
 
--- where l is not below p, p is at or below l
-pub le-of-not-lt : (l p : ℤ) → ltZ l p ≡ false → leZ p l ≡ true
-le-of-not-lt (pos l) (pos p) e = le-leb p l (ltb-false l p e)
-le-of-not-lt (pos l) (negsuc p) e = refl
-le-of-not-lt (negsuc l) (pos p) e = never (sym e)
-le-of-not-lt (negsuc l) (negsuc p) e = le-leb l p (ltb-false p l e)
-
+-- p, at or below l, is at or below q, which is above l
 pub le-over : (p l q : ℤ) → leZ p l ≡ true → leZ q l ≡ false → leZ p q ≡ true
 le-over (pos p) (pos l) (pos q) e f = le-leb p q (omega (arith, leb-true, leb-false))
 le-over (pos p) (pos l) (negsuc q) e f = never (sym f)
@@ -87,6 +86,7 @@ mag-cond : (t : Bool) (a b : ℕ) → mag (cond t (negsuc (b - suc a)) (pos (a -
 mag-cond true a b = omega arith
 mag-cond false a b = omega arith
 
+-- the size of a sum is at most the sizes of both numbers and 1
 pub mag-sum : (a b : ℤ) → mag (a +ℤ b) ≤ mag a + mag b + 1
 mag-sum (pos a) (pos b) = omega arith
 mag-sum (pos a) (negsuc b) = omega (arith, mag-cond (ltb a (suc b)) a (suc b))

@@ -3,7 +3,7 @@ use Prim.Native.Nat.{ℕ, _+_, _*_, _≤_, _<_}
 use mathlib.Core.Path.{_≡_, refl, sym, ap, _∙_}
 use mathlib.Core.Logic.{⊎-elim}
 use mathlib.Core.List.{List, [], _∷_, _++_, map, List·Memᴰ, List·Memᴰ·head, List·Memᴰ·tail}
-use mathlib.Core.Bool.{Bool, true, false, false≢true}
+use mathlib.Core.Bool.{Bool, true, false, _||_, false≢true}
 use native.Mathlib.Omega.{arith}
 use lib.ListN.{length}
 use lib.Dec.{eqb}
@@ -12,26 +12,31 @@ use Rattle.words.specs.Lists.{sum, any, risesAbove, rises}
 use Rattle.words.proofs.Tests.{not-first, not-second, either, facts}
 
 module _ {A : Type 0} where
+  -- the sum over two lists, one behind the other, is the sum over the first plus that over the second
   pub sum-append : (f : A → ℕ) (xs ys : List A) → sum f (xs ++ ys) ≡ sum f xs + sum f ys
   unfolding sum
   sum-append f [] ys = omega arith
   sum-append f (x ∷ xs) ys = omega (arith, sum-append f xs ys)
 
+  -- to sum a figure over a mapped list is to sum it of what each member is mapped to
   pub sum-map : {B : Type 0} (f : B → ℕ) (g : A → B) (xs : List A) → sum f (map g xs) ≡ sum (λ x. f (g x)) xs
   unfolding sum
   sum-map f g [] = refl
   sum-map f g (x ∷ xs) = ap (λ s. f (g x) + s) (sum-map f g xs)
 
+  -- a figure that is nowhere larger than another has no larger sum
   pub sum-le : (f g : A → ℕ) (xs : List A) → ((x : A) → f x ≤ g x) → sum f xs ≤ sum g xs
   unfolding sum
   sum-le f g [] h = omega arith
   sum-le f g (x ∷ xs) h = omega (arith, h x, sum-le f g xs h)
 
+  -- a sum of zeros is 0
   pub sum-zero : (xs : List A) → sum (λ x. 0) xs ≡ 0
   unfolding sum
   sum-zero [] = refl
   sum-zero (x ∷ xs) = omega (arith, sum-zero xs)
 
+  -- the sum of two figures added is their two sums added
   pub sum-plus : (f g : A → ℕ) (xs : List A) → sum (λ x. f x + g x) xs ≡ sum f xs + sum g xs
   unfolding sum
   sum-plus f g [] = omega arith
@@ -49,6 +54,7 @@ module _ {A : Type 0} where
   sum-same f g [] h = refl
   sum-same f g (x ∷ xs) h = omega (arith, h x (List·Memᴰ·head refl), sum-same f g xs (λ y m. h y (List·Memᴰ·tail m)))
 
+  -- the figure of one member is at most the sum
   pub member-le : (f : A → ℕ) {x : A} {xs : List A} → List·Memᴰ x xs → f x ≤ sum f xs
   unfolding sum
   member-le f (List·Memᴰ·head e) = omega (arith, ap f e)
@@ -66,6 +72,42 @@ module _ {A : Type 0} where
   none-pass p [] h = refl
   none-pass p (x ∷ xs) h = rw (h x (List·Memᴰ·head refl)) (none-pass p xs (λ y m. h y (List·Memᴰ·tail m)))
 
+-- a walk over a list, by what is left of it: a next member and the rest, or nothing
+module _ {A : Type 0} {left : List A} where
+  -- at the start all is left to add
+  pub sum-start : (f : A → ℕ) {all : List A} → all ≡ left → 0 + sum f left ≡ sum f all
+  sum-start f start = let here = ap (sum f) start in omega (arith, here)
+
+  -- what is added so far and what is left to add, when the next member's share is added
+  pub sum-turn : (f : A → ℕ) (so all share : ℕ) {x : A} {rest : List A} → left ≡ x ∷ rest → so + sum f left ≡ all → share ≡ f x → so + share + sum f rest ≡ all
+  unfolding sum
+  sum-turn f so all share turn adds e = let here = ap (sum f) turn in omega (arith, here, adds, e)
+
+  -- nothing is left to add
+  pub sum-end : (f : A → ℕ) (so all : ℕ) → left ≡ [] → so + sum f left ≡ all → so ≡ all
+  unfolding sum
+  sum-end f so all none adds = let here = ap (sum f) none in omega (arith, here, adds)
+
+  -- whether one of what is left passes is what the next member tells, or the rest
+  pub any-turn : (p : A → Bool) (told : Bool) {whole : Bool} {x : A} {rest : List A} → whole ≡ any p left → left ≡ x ∷ rest → p x ≡ told → whole ≡ (told || any p rest)
+  unfolding any
+  any-turn p told {whole} {x} {rest} asks turn e = asks ∙ ap (any p) turn ∙ ap (λ t. t || any p rest) e
+
+  -- nothing is left to pass
+  pub any-end : (p : A → Bool) {whole : Bool} → whole ≡ any p left → left ≡ [] → whole ≡ false
+  unfolding any
+  any-end p asks none = asks ∙ ap (any p) none
+
+  -- where no member passes, none of what is left does
+  pub none-start : (p : A → Bool) {all : List A} → all ≡ left → any p all ≡ false → any p left ≡ false
+  none-start p start none = sym (ap (any p) start) ∙ none
+
+  -- neither the next nor a later one
+  pub none-turn : (p : A → Bool) {x : A} {rest : List A} → left ≡ x ∷ rest → any p left ≡ false → (p x ≡ false) × (any p rest ≡ false)
+  none-turn p {x} {rest} turn none =
+      let both = sym (any-turn p (p x) refl turn refl) ∙ none in
+      (not-first (p x) (any p rest) both, not-second (p x) (any p rest) both)
+
 -- a number that is found among others is one of them
 pub found-member : (i : ℕ) (xs : List ℕ) → any (λ x. eqb x i) xs ≡ true → List·Memᴰ i xs
 unfolding any
@@ -78,6 +120,7 @@ pub rises-next : (last x : ℕ) (xs : List ℕ) → risesAbove last (x ∷ xs) �
 unfolding risesAbove
 rises-next last x xs e = (search facts, search facts)
 
+-- numbers that rise from above a number on rise
 pub rises-rest : (last : ℕ) (xs : List ℕ) → risesAbove last xs ≡ true → rises xs ≡ true
 unfolding risesAbove rises
 rises-rest last [] e = refl

@@ -12,6 +12,7 @@ use Rattle.words.proofs.Words.{beyond-written, word-back}
 use Rattle.words.proofs.Access.{first-byte}
 
 module _ (at : ℕ) (ws b : List ℕ) (room : at + 8 * length ws ≤ length b) where
+  -- the front of the buffer, up to the place, has as many bytes as the place says
   front-length : length (take at b) ≡ at
   front-length = length-take-le at b (omega arith)
 
@@ -20,6 +21,7 @@ module _ (at : ℕ) (ws b : List ℕ) (room : at + 8 * length ws ≤ length b) w
   unfolding writtenAt
   before-kept = take-at (take at b) (written ws (drop at b)) at front-length
 
+  -- the bytes beyond the words are as they were
   pub beyond-kept : drop (at + 8 * length ws) (writtenAt at ws b) ≡ drop (at + 8 * length ws) b
   unfolding writtenAt
   beyond-kept =
@@ -28,9 +30,11 @@ module _ (at : ℕ) (ws b : List ℕ) (room : at + 8 * length ws ≤ length b) w
       ∙ beyond-written ws (drop at b)
       ∙ drop-drop (8 * length ws) at b
 
+  -- a byte before the place is as it was
   byte-before : (j : ℕ) → j < at → getD (writtenAt at ws b) j 0 ≡ getD b j 0
   byte-before j h = sym (getD-take at (writtenAt at ws b) j 0 h) ∙ ap (λ l. getD l j 0) before-kept ∙ getD-take at b j 0 h
 
+  -- a byte beyond the words is as it was
   byte-beyond : (j : ℕ) → at + 8 * length ws ≤ j → getD (writtenAt at ws b) j 0 ≡ getD b j 0
   byte-beyond j h =
       let end = at + 8 * length ws in
@@ -40,10 +44,6 @@ module _ (at : ℕ) (ws b : List ℕ) (room : at + 8 * length ws ≤ length b) w
       ∙ ap (λ l. getD l (j - end) 0) beyond-kept
       ∙ getD-drop end b (j - end) 0
       ∙ ap (λ k. getD b k 0) there
-
-  -- a byte outside the words is as it was
-  pub byte-kept : (j : ℕ) → (j < at) ⊎ (at + 8 * length ws ≤ j) → getD (writtenAt at ws b) j 0 ≡ getD b j 0
-  byte-kept j = ⊎-elim (byte-before j) (byte-beyond j)
 
   -- a word that has been written is read back from its place, where they all fit
   pub read-there : (k : ℕ) → ((w : ℕ) → List·Memᴰ w ws → w < 256 ^ 8) → k < length ws → numberAt 8 (writtenAt at ws b) (at + 8 * k) ≡ getD ws k 0

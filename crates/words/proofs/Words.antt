@@ -85,6 +85,7 @@ pub first-word : (n w : ℕ) (ws rest : List ℕ) → w < 256 ^ n → number n (
 unfolding bytesOfWords
 first-word n w ws rest h = rw (append-assoc (bytesOf n w) (bytesOfWords n ws) rest) (number-bytesOf n w (bytesOfWords n ws ++ rest) h)
 
+-- behind the bytes of the first word stand those of the others
 pub next-words : (n w : ℕ) (ws rest : List ℕ) → drop n (bytesOfWords n (w ∷ ws) ++ rest) ≡ bytesOfWords n ws ++ rest
 unfolding bytesOfWords
 next-words n w ws rest = rw (append-assoc (bytesOf n w) (bytesOfWords n ws) rest) (drop-at (bytesOf n w) (bytesOfWords n ws ++ rest) n (length-bytesOf n w))

@@ -14,6 +14,7 @@ pub record Figure : Type 0 where
   pub stated : ℕ
 
 infix 70 _gives_
+-- a figure, and what it must be
 abbrev pub _gives_ : ℕ → ℕ → Figure
 x gives y = record { computed = x; stated = y }
 

@@ -42,6 +42,10 @@ unfoldable pub entries : {A : Type 0} → ℕ → (List ℕ → A) → ℕ → L
 entries size read zero b = []
 entries size read (suc n) b = read b ∷ entries size read n (drop size b)
 
+-- the first n words of a ledger, a result or a part of one
+unfoldable pub wordsIn : ℕ → List ℕ → List ℕ
+wordsIn = entries 8 (λ b. word64 b 0)
+
 -- the bytes of words of n bytes each, one word after the other
 unfoldable pub bytesOfWords : ℕ → List ℕ → List ℕ
 bytesOfWords n [] = []

@@ -65,6 +65,7 @@ posted-rows v cs gs i =
       credited = (p .credited ∙ sym (plant-append i (λ g. g .credit) gs later)) k;
     }
 
+-- so posting rows to the accounts of earlier rows makes the accounts of all of them
 pub posted-accounts : (v : Assessed) (cs : List ChargedRow) (gs : List GivenRow) (is : List ℕ)
     → map (postedAll v cs) (map (accountByRows gs) is) ≡ map (accountByRows (gs ++ map (givenOf v) cs)) is
 posted-accounts v cs gs [] = refl
@@ -87,12 +88,15 @@ pub record GoodBlock (block : List ℕ) : Type 0 where
   pub few : length (blockOf block .ids) ≤ mostIds
 
 module _ (block : List ℕ) (good : GoodBlock block) (l : Ledger) (gs : List GivenRow) (k : Books block l gs) where
+  -- the ids of the block
   abbrev is : List ℕ
   is = blockOf block .ids
 
+  -- the block's ids rise, and all are above 0
   rise : risesAbove 0 is ≡ true
   rise = ids-rise is (good .ids)
 
+  -- the ids of the ledger's accounts are those of the block, in its order
   pub same-ids : idsIn l ≡ is
   unfolding idsIn
   same-ids = ap (map (λ a. a .id)) (k .accounts) ∙ ids-of-rows gs is
@@ -102,14 +106,17 @@ module _ (block : List ℕ) (good : GoodBlock block) (l : Ledger) (gs : List Giv
   sum-accounts of f each =
       ap (sum of) (k .accounts) ∙ sum-map of (accountByRows gs) is ∙ ap (λ (g : ℕ → ℕ). sum g is) (λ i j. each j i) ∙ parts-make-whole f is rise gs (k .known)
 
+  -- the charged sums of all accounts make up the charges of all rows given
   all-charged : sum (λ a. a .charged) (l .accounts) ≡ sum (λ g. g .charge) gs
   unfolding accountByRows
   all-charged = sum-accounts (λ a. a .charged) (λ g. g .charge) (λ i. refl)
 
+  -- the credited sums of all accounts make up the credits of all rows given
   all-credited : sum (λ a. a .credited) (l .accounts) ≡ sum (λ g. g .credit) gs
   unfolding accountByRows
   all-credited = sum-accounts (λ a. a .credited) (λ g. g .credit) (λ i. refl)
 
+  -- no plant's largest commitment is above the most kW of a row
   largest-in : (i : ℕ) → largestOfPlant i gs ≤ mostKilowatts
   largest-in i = largest-le i mostKilowatts gs (k .committed)
 
@@ -121,6 +128,7 @@ module _ (block : List ℕ) (good : GoodBlock block) (l : Ledger) (gs : List Giv
       (λ i m. omega (arith, k .limited i m, limit-le (blockOf block .terms) (largestOfPlant i gs) t (largest-in i))) in
       omega (arith, parts-make-whole (λ g. g .charge) is rise gs (k .known), each, mul-le-mul-right mostLimit (good .few))
 
+  -- ground 6 does not refuse the account that the rows given make of a listed id
   plant-in : (i : ℕ) → List·Memᴰ i is → AccountIn (l .terms) (accountByRows gs i)
   unfolding accountByRows
   plant-in i m = record {
@@ -129,6 +137,7 @@ module _ (block : List ℕ) (good : GoodBlock block) (l : Ledger) (gs : List Giv
     credited = omega (arith, part-le i (λ g. g .credit) gs, k .closes, charges-in);
   }
 
+  -- a ledger with such books is in order, where its earliest interval and carried cents are within bounds
   pub in-order : l .earliest ≤ intervalsPerDay * l .terms .days → l .carried ≤ mostCents → LedgerIn l
   in-order early small =
       let n : length (l .accounts) ≡ length is = ap length (k .accounts) ∙ length-map is (accountByRows gs) in

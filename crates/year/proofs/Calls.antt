@@ -24,6 +24,7 @@ after y c a =
     (record { ledger = a .ledger; given = y .given; last = y .last })
 
 module _ (P : Year → Type 0) (step : (y : Year) (c : Call) → P y → settling (y .ledger) (c .file) (c .result) .ground ≡ 0 → P (accept y c)) where
+  -- what each accepted call keeps still holds after one call, accepted or refused
   after-call : (y : Year) (c : Call) → P y → P (afterCall y c)
   unfolding afterCall
   after-call y c k = by (eqb (answered (settlingGrounds (y .ledger) (c .file) (c .result))) 0) refl
@@ -37,6 +38,7 @@ module _ (P : Year → Type 0) (step : (y : Year) (c : Call) → P y → settlin
           subst (λ a. P (after y c a)) (sym a) (step y c k (ap (λ a. a .ground) a))
       by false e = subst (λ a. P (after y c a)) (sym (settling-refuses (y .ledger) (c .file) (c .result) e)) (rw e k)
 
+  -- so it holds after any list of calls, where it holds of the year before them
   pub after-calls : (y : Year) (calls : List Call) → P y → P (afterCalls y calls)
   unfolding afterCalls
   after-calls y [] k = k

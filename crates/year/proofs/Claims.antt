@@ -9,7 +9,7 @@ use lib.ListN.{length, length-map, drop, getD}
 use lib.Dec.{eqb}
 use borrow.Author.Tests.{eqb-true}
 use Rattle.words.specs.Lists.{sum, any}
-use Rattle.words.specs.Words.{Bytes, numberAt, word64, written}
+use Rattle.words.specs.Words.{Bytes, numberAt, word64, written, wordsIn}
 use Rattle.words.specs.Grounds.{answered, outside}
 use Rattle.words.proofs.Words.{numberAt-lt, drop-bytes, entries-all, words-back, word-back, length-written, beyond-written}
 use Rattle.words.proofs.Grounds.{answered-in}
@@ -20,16 +20,15 @@ use Rattle.ledger.specs.Opening.{openingGrounds, openedLedger, opening}
 use Rattle.settling.proofs.SettledLaws.{length-row-words}
 use Rattle.settling.specs.Settling.{assessedFile, resultWords, postedAll, settlingGrounds, settledLedger, settling}
 use Rattle.year.specs.Year.{Call, GivenRow, givenBy, newYear, afterCalls}
-use Rattle.year.specs.Claims.{SumsOfAYear, NeverLockedOut, wordsIn, Holds, OpeningReadsBack, ReadsBack, SettlingReadsBack, OpeningAnswers, OpeningRefusals, SettlingAnswers, SettlingRefusals}
+use Rattle.year.specs.Claims.{SumsOfAYear, NeverLockedOut, Holds, OpeningReadsBack, ReadsBack, SettlingReadsBack, OpeningAnswers, OpeningRefusals, SettlingAnswers, SettlingRefusals}
 use Rattle.ledger.proofs.Sound.{opening-none, block-accepted, ledger-room}
 use Rattle.settling.proofs.Accepted.{settling-none, Accepted, accepted}
 use Rattle.year.proofs.LedgerBack.{Fits, ledger-words-fit, LedgerFits, length-ledger}
-use Rattle.year.proofs.Given.{given-back}
-use Rattle.year.proofs.Fits.{made, new, new-charges, new-credits, new-bonus, row-fits, ledger-fits, result-words-fit}
+use Rattle.year.proofs.Fits.{made, new, new-charges, new-credits, new-bonus, ledger-fits, result-words-fit}
 use Rattle.settling.proofs.SettlingAnswers.{settledAnswer, settling-accepts, settling-refuses}
 use Rattle.ledger.proofs.OpeningAnswers.{opening-accepts, opening-refuses}
 use Rattle.year.proofs.Calls.{after-calls}
-use Rattle.year.proofs.Step.{Kept, good-block, accept-kept, opened-fits, opened-room, opened-kept}
+use Rattle.year.proofs.Step.{Kept, good-block, pool-small, given-made, accept-kept, opened-fits, opened-room, opened-kept}
 
 -- a year on a block of bytes, after any calls
 kept : (block ledger : List ℕ) → Bytes block → opening block ledger .ground ≡ 0 → (calls : List Call)
@@ -40,10 +39,12 @@ kept block ledger bytes e calls =
     let start = subst (λ a. Kept block (newYear (a .ledger))) (sym a) (opened-kept block ledger s bytes) in
     after-calls (Kept block) (λ y c k. accept-kept block bytes (good-block block ledger s) y k c) (newYear (opening block ledger .ledger)) calls start
 
+-- the sums hold after any list of calls on a freshly opened ledger
 pub sums-of-a-year : SumsOfAYear
 unfolding SumsOfAYear
 sums-of-a-year block ledger bytes e calls = kept block ledger bytes e calls .sums
 
+-- ground 6 does not refuse the ledger that any list of calls leaves of a freshly opened one
 pub never-locked-out : NeverLockedOut
 unfolding NeverLockedOut
 never-locked-out block ledger bytes e calls = kept block ledger bytes e calls .holds
@@ -53,6 +54,7 @@ written-held : (ws b : List ℕ) → Fits ws → Holds ws b (written ws b)
 unfolding wordsIn word64 numberAt written
 written-held ws b fit = record { read-back = words-back 8 ws (drop (8 * length ws) b) fit; beyond = beyond-written ws b }
 
+-- an accepted opening leaves a ledger whose words are read back, with the bytes beyond as they were
 pub opening-reads-back : OpeningReadsBack
 unfolding OpeningReadsBack
 opening-reads-back block ledger bytes e =
@@ -69,45 +71,46 @@ account-id-fits ledger bytes =
 
 -- an accepted call on a ledger of bytes
 module _ (ledger file result : List ℕ) (bytes : Bytes ledger) (s : Accepted ledger file result) where
+  -- the ledger before the call
   abbrev l : Ledger
   l = ledgerOf ledger
 
+  -- the interval that the file makes of it
   abbrev v : Assessed
   v = made l (headerOf file) (rowsOf file)
 
+  -- the pool of the interval is at most the most cents allowed
   small : pool v ≤ mostCents
-  unfolding assessedFile
-  small = s .pool
+  small = pool-small ledger file result s
 
+  -- the values of the ledger after the file fit 64 bits
   settled-fits : LedgerFits (settledLedger ledger file)
   unfolding settledLedger assessedFile
   settled-fits = ledger-fits l (headerOf file) (rowsOf file) (s .rows) small (s .ledger-is) (s .header) (s .days) (account-id-fits ledger bytes)
 
+  -- the words of the result fit 64 bits
   result-fits : Fits (resultWords (assessedFile ledger file))
   unfolding assessedFile
   result-fits = result-words-fit l (headerOf file) (rowsOf file) (s .rows) small (s .header) (s .rows-few)
-
-  given-new : givenBy file (written (resultWords v) result) ≡ new l (headerOf file) (rowsOf file)
-  unfolding assessed
-  given-new =
-      given-back v (l .terms) (l .accounts) (ratioOf (headerOf file) (rowsOf file)) file result refl (row-fits l (headerOf file) (rowsOf file) (s .rows) small)
 
   -- a word of the written result
   result-word : (k : ℕ) → k < length (resultWords v) → word64 (written (resultWords v) result) k ≡ getD (resultWords v) k 0
   unfolding word64 numberAt written assessedFile
   result-word k h = word-back 8 (resultWords v) (drop (8 * length (resultWords v)) result) k result-fits h
 
+  -- a result has eight words or more
   many : 8 ≤ length (resultWords v)
   unfolding resultWords
   many = omega arith
 
+  -- ledger and result are read back, and charges, credits and bonus are the sums over the rows given
   settled-back : ReadsBack ledger file result (settledAnswer ledger file result)
   unfolding resultWords assessedFile
   settled-back =
       let h = headerOf file in
       let rs = rowsOf file in
       let back : (f : GivenRow → ℕ) (total : ℕ) → sum f (new l h rs) ≡ total → total ≡ sum f (givenBy file (written (resultWords v) result))
-      = λ f total e. sym e ∙ sym (ap (sum f) given-new) in
+      = λ f total e. sym e ∙ sym (ap (sum f) (given-made ledger file result s)) in
       record {
         ledger-holds = written-held (ledgerWords (settledLedger ledger file)) ledger (ledger-words-fit (settledLedger ledger file) settled-fits);
         result-holds = written-held (resultWords v) result result-fits;
@@ -116,16 +119,19 @@ module _ (ledger file result : List ℕ) (bytes : Bytes ledger) (s : Accepted le
         bonus = result-word 4 (omega (arith, many)) ∙ back (λ g. g .bonus) (totalBonus v) (new-bonus l h rs);
       }
 
+-- so it is for every accepted call of settling on a ledger of bytes
 pub settling-reads-back : SettlingReadsBack
 unfolding SettlingReadsBack
 settling-reads-back ledger file result bytes e =
     let none = settling-none ledger file result e in
     subst (ReadsBack ledger file result) (sym (settling-accepts ledger file result none)) (settled-back ledger file result bytes (accepted ledger file result e))
 
+-- no ground that opening answers is above 5
 opening-ground : (block ledger : List ℕ) → answered (openingGrounds block ledger) ≤ 5
 unfolding openingGrounds any outside
 opening-ground block ledger = ⊎-elim (λ e. omega (arith, e)) (λ h. h .1) (answered-in 1 5 (openingGrounds block ledger) refl)
 
+-- opening answers at most 5, a refusal changes no byte of the ledger, and its length stays
 pub opening-refusals : OpeningRefusals
 unfolding OpeningRefusals
 opening-refusals block ledger = by (eqb g 0) refl
@@ -143,29 +149,35 @@ opening-refusals block ledger = by (eqb g 0) refl
         subst (OpeningAnswers ledger) (sym (opening-refuses block ledger e))
         (record { ground = opening-ground block ledger; refused = λ h. refl; length-kept = refl })
 
+-- what the grounds of settling answer is 0, or 6 to 16
 settling-ground : (ledger file result : List ℕ) → let g = answered (settlingGrounds ledger file result) in (g ≡ 0) ⊎ ((6 ≤ g) × (g ≤ 16))
 unfolding settlingGrounds any outside
 settling-ground ledger file result = answered-in 6 16 (settlingGrounds ledger file result) refl
 
 -- writing what an accepted call gives keeps both lengths
 module _ (ledger file result : List ℕ) (s : Accepted ledger file result) where
+  -- the interval that the file makes of the ledger
   abbrev w : Assessed
   w = assessedFile ledger file
 
+  -- the interval has as many rows as the file
   rows-given : length (w .rows) ≡ length (rowsOf file)
   unfolding assessedFile assessed
   rows-given = length-map (rowsOf file) (chargedRow (ledgerOf ledger .terms) (ledgerOf ledger .accounts) (ratioOf (headerOf file) (rowsOf file)))
 
+  -- writing the result's words keeps the length of the result buffer
   result-length : length (written (resultWords w) result) ≡ length result
   unfolding resultWords
   result-length = length-written (resultWords w) result (omega (arith, length-row-words w (w .rows), rows-given, s .room))
 
+  -- writing the words of the ledger after the file keeps the length of the ledger buffer
   ledger-length : length (written (ledgerWords (settledLedger ledger file)) ledger) ≡ length ledger
   unfolding settledLedger
   ledger-length =
       let n = length-map (ledgerOf ledger .accounts) (postedAll w (w .rows)) in
       length-ledger (settledLedger ledger file) ledger (rw n (ledger-room ledger (s .ledger-holds)))
 
+-- settling answers 0 or 6 to 16, a refusal changes no byte of ledger or result, and the lengths stay
 pub settling-refusals : SettlingRefusals
 unfolding SettlingRefusals
 settling-refusals ledger file result = by (eqb g 0) refl

@@ -47,21 +47,26 @@ module _ (l : Ledger) (h : Header) (rs : List Row) where
   abbrev pub made : Assessed
   made = assessed (l .terms) (l .accounts) (l .carried) h rs
 
+  -- what the rows of the interval are given
   abbrev pub new : List GivenRow
   new = map (givenOf made) (made .rows)
 
+  -- the charges of the rows given add up to the interval's charges
   pub new-charges : sum (λ g. g .charge) new ≡ charges made
   unfolding charges givenOf
   new-charges = sum-map (λ g. g .charge) (givenOf made) (made .rows)
 
+  -- the credits of the rows given add up to the interval's credits
   pub new-credits : sum (λ g. g .credit) new ≡ credits made
   unfolding credits givenOf
   new-credits = sum-map (λ g. g .credit) (givenOf made) (made .rows)
 
+  -- the bonus of the rows given adds up to the interval's total bonus
   pub new-bonus : sum (λ g. g .bonus) new ≡ totalBonus made
   unfolding totalBonus givenOf
   new-bonus = sum-map (λ g. g .bonus) (givenOf made) (made .rows)
 
+  -- the pool is the cents carried in the ledger plus the charges of the interval
   pub pool-is : pool made ≡ l .carried + charges made
   unfolding pool assessed
   pool-is = refl
@@ -81,6 +86,7 @@ module _ (l : Ledger) (h : Header) (rs : List Row) where
       pub charge : c .charge ≤ mostCents
       pub credit : credit made c ≤ mostCents
 
+    -- a charged row has its figures in range, and its charge and credit are at most the most cents
     charged-in : (c : ChargedRow) → List·Memᴰ c (made .rows) → ChargedIn c
     unfolding assessed chargedRow charges credits
     charged-in c m =
@@ -92,6 +98,7 @@ module _ (l : Ledger) (h : Header) (rs : List Row) where
           credit = omega (arith, member-le (credit made) m, credits-le made, small);
         }
 
+    -- what a row of the file is given fits 64 bits
     pub row-fits : (r : Row) → List·Memᴰ r rs → GivenFits (givenOf made (chargedRow (l .terms) (l .accounts) (ratioOf h rs) r))
     unfolding assessed givenOf
     row-fits r m =
@@ -139,6 +146,7 @@ module _ (l : Ledger) (h : Header) (rs : List Row) where
               subst AccountFits e (account-fits s a m (ids-fit a m));
         }
 
+    -- the words of charged rows within those bounds fit 64 bits
     row-words-fit : (cs : List ChargedRow) → ((c : ChargedRow) → List·Memᴰ c cs → ChargedIn c) → Fits (rowWords made cs)
     unfolding rowWords
     row-words-fit [] each = fits-nil
@@ -150,14 +158,17 @@ module _ (l : Ledger) (h : Header) (rs : List Row) where
         let mid = fits-cons (c .figures .economic) _ (omega (arith, f .economic)) (fits-cons (c .figures .shortfall) _ (omega (arith, f .shortfall)) (fits-cons (c .figures .bonus) _ (omega (arith, f .bonus)) last)) in
         fits-cons (c .figures .expected) _ (omega (arith, f .expected)) (fits-cons (c .figures .actual) _ (omega (arith, f .actual)) (fits-cons (c .figures .outage) _ (omega (arith, f .outage)) mid))
 
+    -- the total bonus is at most twice the most kW for each charged row
     bonus-in : totalBonus made ≤ length (made .rows) * (2 * mostKilowatts)
     unfolding totalBonus
     bonus-in = sum-most (λ c. c .figures .bonus) (2 * mostKilowatts) (made .rows) (λ c m. charged-in c m .figures .bonus)
 
+    -- there are as many charged rows as rows
     rows-as-many : length (made .rows) ≡ length rs
     unfolding assessed
     rows-as-many = length-map rs (chargedRow (l .terms) (l .accounts) (ratioOf h rs))
 
+    -- both sides of the ratio fit 64 bits, where the header is in range and the rows are not too many
     ratio-in : HeaderIn h → length rs ≤ mostRows → (made .ratio .numerator < 2 ^ 64) × (made .ratio .denominator < 2 ^ 64)
     unfolding assessed ratioOf
     ratio-in header few = (omega (arith, numerator-le h rs header few rows), omega (arith, denominator-le rs few rows))

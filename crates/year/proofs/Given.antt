@@ -22,6 +22,7 @@ givenOf v c = record {
   credit = credit v c;
 }
 
+-- a row given whose shortfall, bonus, charge and credit fit 64 bits
 pub record GivenFits (g : GivenRow) : Type 0 where
   pub shortfall : g .shortfall < 2 ^ 64
   pub bonus : g .bonus < 2 ^ 64
@@ -29,6 +30,7 @@ pub record GivenFits (g : GivenRow) : Type 0 where
   pub credit : g .credit < 2 ^ 64
 
 module _ (v : Assessed) (t : Terms) (accounts : List Account) (q : Ratio) where
+  -- the rows given are read back from the bytes of their row words, where they fit
   rows-back : (rs : List Row) (rest : List ℕ) → ((r : Row) → List·Memᴰ r rs → GivenFits (givenOf v (chargedRow t accounts q r)))
       → givenFrom rs (bytesOfWords 8 (rowWords v (map (chargedRow t accounts q) rs)) ++ rest) ≡ map (givenOf v) (map (chargedRow t accounts q) rs)
   unfolding givenFrom givenOf rowWords bytesOfWords bytesOf word64 numberAt chargedRow
@@ -47,6 +49,7 @@ module _ (v : Assessed) (t : Terms) (accounts : List Account) (q : Ratio) where
       }
       ∷ rows-back rs rest (λ s m. fit s (List·Memᴰ·tail m)) i
 
+  -- the rows given are read back from a buffer that the whole result has been written to
   pub given-back : (file result : List ℕ) → v .rows ≡ map (chargedRow t accounts q) (rowsOf file)
       → ((r : Row) → List·Memᴰ r (rowsOf file) → GivenFits (givenOf v (chargedRow t accounts q r)))
       → givenBy file (written (resultWords v) result) ≡ map (givenOf v) (v .rows)

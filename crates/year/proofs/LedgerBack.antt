@@ -11,6 +11,7 @@ use borrow.Author.Tests.{eq-eqb, le-ltb}
 use Rattle.words.specs.Lists.{sum}
 use Rattle.words.specs.Words.{number, bytesOf, numberAt, word64, entries, bytesOfWords, written}
 use Rattle.words.specs.Grounds.{outside}
+use Rattle.words.proofs.Tests.{lies-inside}
 use Rattle.words.proofs.Lists.{none-pass}
 use Rattle.words.proofs.Words.{first-word, entries-back, length-written}
 use Rattle.reading.specs.Block.{mostIds, Terms}
@@ -23,18 +24,22 @@ use Rattle.ledger.proofs.Sound.{AccountIn, LedgerIn}
 abbrev pub Fits : List ℕ → Type 0
 Fits ws = (w : ℕ) → List·Memᴰ w ws → w < 2 ^ 64
 
+-- an empty list of words fits
 pub fits-nil : Fits []
 fits-nil w m = absurd (List·Memᴰ·not-nil m)
 
+-- a word that fits, in front of words that fit, makes a list that fits
 pub fits-cons : (v : ℕ) (ws : List ℕ) → v < 2 ^ 64 → Fits ws → Fits (v ∷ ws)
 fits-cons v ws h fit w m = ⊎-elim (λ e. omega (arith, e)) (fit w) (List·Memᴰ·cases-cons m)
 
+-- an account whose four values fit 64 bits
 pub record AccountFits (a : Account) : Type 0 where
   pub id : a .id < 2 ^ 64
   pub largest : a .largest < 2 ^ 64
   pub charged : a .charged < 2 ^ 64
   pub credited : a .credited < 2 ^ 64
 
+-- a ledger whose values, number of accounts and accounts fit 64 bits
 pub record LedgerFits (l : Ledger) : Type 0 where
   pub netCone : l .terms .netCone < 2 ^ 64
   pub days : l .terms .days < 2 ^ 64
@@ -43,6 +48,7 @@ pub record LedgerFits (l : Ledger) : Type 0 where
   pub count : length (l .accounts) < 2 ^ 64
   pub accounts : (a : Account) → List·Memᴰ a (l .accounts) → AccountFits a
 
+-- the words of accounts that fit are words that fit
 account-words-fit : (xs : List Account) → ((a : Account) → List·Memᴰ a xs → AccountFits a) → Fits (accountWords xs)
 unfolding accountWords
 account-words-fit [] fit = fits-nil
@@ -50,6 +56,7 @@ account-words-fit (a ∷ xs) fit =
     let f = fit a (List·Memᴰ·head refl) in
     fits-cons _ _ (f .id) (fits-cons _ _ (f .largest) (fits-cons _ _ (f .charged) (fits-cons _ _ (f .credited) (account-words-fit xs (λ b m. fit b (List·Memᴰ·tail m))))))
 
+-- the words of a ledger that fits are words that fit
 pub ledger-words-fit : (l : Ledger) → LedgerFits l → Fits (ledgerWords l)
 unfolding ledgerWords
 ledger-words-fit l f =
@@ -68,15 +75,18 @@ account-back rest a xs f =
       credited = first-word 8 (a .credited) ws rest (f .credited) i;
     }
 
+-- behind the bytes of the first account stand those of the others
 next-accounts : (rest : List ℕ) (a : Account) (xs : List Account)
     → drop accountBytes (bytesOfWords 8 (accountWords (a ∷ xs)) ++ rest) ≡ bytesOfWords 8 (accountWords xs) ++ rest
 unfolding accountWords bytesOfWords bytesOf
 next-accounts rest a xs = refl
 
+-- accounts that fit are read back from the bytes of their words
 accounts-back : (rest : List ℕ) (xs : List Account) → ((a : Account) → List·Memᴰ a xs → AccountFits a)
     → entries accountBytes accountAt (length xs) (bytesOfWords 8 (accountWords xs) ++ rest) ≡ xs
 accounts-back rest = entries-back accountBytes accountAt (λ xs. bytesOfWords 8 (accountWords xs)) rest AccountFits (account-back rest) (next-accounts rest)
 
+-- a ledger that fits is read back from a buffer that its words have been written to
 pub ledger-back : (l : Ledger) (b : List ℕ) → LedgerFits l → ledgerOf (written (ledgerWords l) b) ≡ l
 unfolding ledgerOf accountCount written ledgerWords bytesOfWords bytesOf word64 numberAt
 ledger-back l b f =
@@ -95,6 +105,7 @@ ledger-back l b f =
       accounts = (ap (λ k. entries accountBytes accountAt k (bytesOfWords 8 ws ++ rest)) counted ∙ accounts-back rest (l .accounts) (f .accounts)) i;
     }
 
+-- each account takes four words
 length-accountWords : (xs : List Account) → length (accountWords xs) ≡ 4 * length xs
 unfolding accountWords
 length-accountWords [] = refl
@@ -112,6 +123,7 @@ record Laid (l : Ledger) (b : List ℕ) : Type 0 where
   pub offset : word64 b 6 ≡ 8
   pub last : word64 b 7 ≡ 0
 
+-- a written ledger has those words, where its number of accounts fits 64 bits
 laid : (l : Ledger) (b : List ℕ) → length (l .accounts) < 2 ^ 64 → Laid l (written (ledgerWords l) b)
 unfolding accountCount word64 numberAt written ledgerWords bytesOfWords bytesOf
 laid l b h =
@@ -126,19 +138,18 @@ laid l b h =
       last = first-word 8 0 ws rest (omega arith);
     }
 
+-- an account within its bounds passes ground 6's test of an account
 account-good : (t : Terms) (a : Account) → AccountIn t a → accountOutside t a ≡ false
 unfolding accountOutside
 account-good t a s =
     rw (le-ltb mostKilowatts (a .largest) (s .largest), le-ltb (limit t (a .largest)) (a .charged) (s .charged)) (le-ltb mostCredited (a .credited) (s .credited))
 
+-- a buffer whose words 0, 6 and 7 are as laid out passes the test of the layout
 laid-out : (l : Ledger) (b : List ℕ) → Laid l b → notLaidOut b ≡ false
 unfolding notLaidOut
 laid-out l b p = rw (eq-eqb (word64 b 0) 1 (p .format), eq-eqb (word64 b 6) 8 (p .offset), eq-eqb (word64 b 7) 0 (p .last))
 
-in-range : (n : ℕ) → 1 ≤ n → n ≤ mostIds → outside 1 mostIds n ≡ false
-unfolding outside
-in-range n some few = rw (le-ltb n 1 some, le-ltb mostIds n few)
-
+-- a ledger in order passes the test that its sums close
 closing : (l : Ledger) → LedgerIn l → doesNotClose l ≡ false
 unfolding doesNotClose
 closing l s = rw (eq-eqb (sum (λ a. a .charged) (l .accounts)) (sum (λ a. a .credited) (l .accounts) + l .carried) (s .closes))
@@ -150,7 +161,7 @@ holds l b back p room s =
     let counted = p .count in
     let e1 : ltb (length b) ledgerHeaderBytes ≡ false = le-ltb (length b) ledgerHeaderBytes (omega (arith, room)) in
     let e2 = laid-out l b p in
-    let e3 : outside 1 mostIds (accountCount b) ≡ false = rw counted (in-range (length (l .accounts)) (s .some) (s .few)) in
+    let e3 : outside 1 mostIds (accountCount b) ≡ false = rw counted (lies-inside 1 mostIds (length (l .accounts)) (s .some) (s .few)) in
     let e4 : ltb (length b) (ledgerHeaderBytes + accountBytes * accountCount b) ≡ false
     = le-ltb (length b) (ledgerHeaderBytes + accountBytes * accountCount b) (omega (arith, counted, room)) in
     let e5 = le-ltb (intervalsPerDay * l .terms .days) (l .earliest) (s .earliest) in
@@ -158,5 +169,6 @@ holds l b back p room s =
     let e7 = none-pass (accountOutside (l .terms)) (l .accounts) (λ a m. account-good (l .terms) a (s .accounts a m)) in
     rw (e1, e2, e3, e4, back, s .terms, s .ids, e5, e6, e7, closing l s)
 
+-- so ground 6 does not refuse a written ledger that fits, has room and is in order
 pub written-holds : (l : Ledger) (b : List ℕ) → LedgerFits l → ledgerBytes (length (l .accounts)) ≤ length b → LedgerIn l → notALedger (written (ledgerWords l) b) ≡ false
 written-holds l b fit room s = holds l (written (ledgerWords l) b) (ledger-back l b fit) (laid l b (fit .count)) (rw (length-ledger l b room) room) s

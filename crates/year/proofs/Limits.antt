@@ -40,6 +40,7 @@ module _ (v : Assessed) (t : Terms) (accounts : List Account) (q : Ratio) where
       let short = rowFigures q r .shortfall in
       omega (arith, if-le r (charge t (raised r a) short), charge-le t r a short)
 
+  -- a plant within the limit of its largest commitment stays so after rows whose ids rise
   pub within-limit : (i : ℕ) (rs : List Row) → rises (map (λ r. r .id) rs) ≡ true
       → let a = accountOf i accounts in
       a .charged ≤ limit t (a .largest) → a .charged + sumOfPlant i (λ g. g .charge) (given rs) ≤ limit t (max (a .largest) (largestOfPlant i (given rs)))

@@ -38,49 +38,68 @@ pub record Kept (block : List ℕ) (y : Year) : Type 0 where
   pub books : Books block (ledgerOf (y .ledger)) (y .given)
   pub holds : notALedger (y .ledger) ≡ false
 
+-- no ground refuses the terms and ids of a block that opening accepts
 pub good-block : (block ledger : List ℕ) → BlockAccepted block ledger → GoodBlock block
 good-block block ledger s =
     let n = length-ids block in
     record { terms = s .terms; ids = s .ids; some = omega (arith, n, s .some); few = omega (arith, n, s .few) }
 
+-- word 4 of a ledger is the cents that it carries
 carried-word : (b : List ℕ) → word64 b 4 ≡ ledgerOf b .carried
 unfolding ledgerOf
 carried-word b = refl
 
+-- the pool of a file that settling accepts is at most the most cents
+pub pool-small : (ledger file result : List ℕ) → Accepted ledger file result → pool (made (ledgerOf ledger) (headerOf file) (rowsOf file)) ≤ mostCents
+unfolding assessedFile
+pool-small ledger file result s = s .pool
+
+-- the rows read back from the result that such a file leaves are those that the interval gives
+pub given-made : (ledger file result : List ℕ) → Accepted ledger file result
+    → givenBy file (written (resultWords (made (ledgerOf ledger) (headerOf file) (rowsOf file))) result) ≡ new (ledgerOf ledger) (headerOf file) (rowsOf file)
+unfolding assessed
+given-made ledger file result s =
+    let l = ledgerOf ledger in
+    let h = headerOf file in
+    let rs = rowsOf file in
+    given-back (made l h rs) (l .terms) (l .accounts) (ratioOf h rs) file result refl (row-fits l h rs (s .rows) (pool-small ledger file result s))
+
 -- an accepted call on a year that keeps the sums
 module _ (block : List ℕ) (bytes : Bytes block) (good : GoodBlock block) (y : Year) (k : Kept block y) (c : Call)
     (e : settling (y .ledger) (c .file) (c .result) .ground ≡ 0) where
+  -- the ledger before the call
   abbrev l : Ledger
   l = ledgerOf (y .ledger)
 
+  -- the rows of the file
   abbrev rs : List Row
   rs = rowsOf (c .file)
 
+  -- the balancing ratio of the file
   abbrev q : Ratio
   q = ratioOf (headerOf (c .file)) rs
 
+  -- the interval that the file makes of the ledger
   abbrev v : Assessed
   v = made l (headerOf (c .file)) rs
 
+  -- the rows that the interval gives
   abbrev gs : List GivenRow
   gs = new l (headerOf (c .file)) rs
 
+  -- the ledger, the file and the result buffer are ones that settling accepts
   s : Accepted (y .ledger) (c .file) (c .result)
   s = accepted (y .ledger) (c .file) (c .result) e
 
+  -- the pool of the interval is at most the most cents allowed
   small : pool v ≤ mostCents
-  unfolding assessedFile
-  small = s .pool
+  small = pool-small (y .ledger) (c .file) (c .result) s
 
-  -- the rows given are read back
-  given-rows : givenBy (c .file) (written (resultWords v) (c .result)) ≡ gs
-  unfolding assessed
-  given-rows = given-back v (l .terms) (l .accounts) q (c .file) (c .result) refl (row-fits l (headerOf (c .file)) rs (s .rows) small)
-
-  -- so is the ledger
+  -- the ledger after the call
   after : Ledger
   after = record { terms = l .terms; earliest = headerOf (c .file) .interval + 1; carried = carriedOn v; accounts = map (postedAll v (v .rows)) (l .accounts) }
 
+  -- the values of the ledger after the call fit 64 bits
   after-fits : LedgerFits after
   unfolding after accountByRows
   after-fits = ledger-fits l (headerOf (c .file)) rs (s .rows) small (s .ledger-is) (s .header) (s .days)
@@ -92,6 +111,7 @@ module _ (block : List ℕ) (bytes : Bytes block) (good : GoodBlock block) (y : 
   unfolding after
   new-accounts = ap (map (postedAll v (v .rows))) (k .books .accounts) ∙ posted-accounts v (v .rows) (y .given) (blockOf block .ids)
 
+  -- all charges given are all credits given plus the cents carried after the call
   new-closes : sum (λ g. g .charge) (y .given ++ gs) ≡ sum (λ g. g .credit) (y .given ++ gs) + after .carried
   unfolding after carriedOn
   new-closes =
@@ -99,6 +119,7 @@ module _ (block : List ℕ) (bytes : Bytes block) (good : GoodBlock block) (y : 
       rw (sum-append (λ g. g .charge) (y .given) gs, sum-append (λ g. g .credit) (y .given) gs)
       (omega (arith, k .books .closes, new-charges l h rs, new-credits l h rs, pool-is l h rs, credits-le v))
 
+  -- a plant's charges so far and in the file stay under the limit of its largest commitment in both
   under-limit : (i : ℕ) → List·Memᴰ i (blockOf block .ids)
       → sumOfPlant i (λ g. g .charge) (y .given) + sumOfPlant i (λ g. g .charge) gs
       ≤ limit (l .terms) (max (largestOfPlant i (y .given)) (largestOfPlant i gs))
@@ -110,6 +131,7 @@ module _ (block : List ℕ) (bytes : Bytes block) (good : GoodBlock block) (y : 
       (within-limit v (l .terms) (l .accounts) q i rs (s .ids-rise)) in
       step (rw (k .books .terms) (k .books .limited i m))
 
+  -- with the new rows added, no listed plant's charges exceed the limit of its largest commitment
   new-limited : (i : ℕ) → List·Memᴰ i (blockOf block .ids)
       → sumOfPlant i (λ g. g .charge) (y .given ++ gs) ≤ limit (blockOf block .terms) (largestOfPlant i (y .given ++ gs))
   new-limited i m =
@@ -117,6 +139,7 @@ module _ (block : List ℕ) (bytes : Bytes block) (good : GoodBlock block) (y : 
       (subst (λ t. sumOfPlant i (λ g. g .charge) (y .given) + sumOfPlant i (λ g. g .charge) gs ≤ limit t (max (largestOfPlant i (y .given)) (largestOfPlant i gs)))
       (k .books .terms) (under-limit i m))
 
+  -- every new row has an id of the block
   new-known : (g : GivenRow) → List·Memᴰ g gs → List·Memᴰ (g .id) (blockOf block .ids)
   unfolding givenOf chargedRow
   new-known g m =
@@ -124,12 +147,14 @@ module _ (block : List ℕ) (bytes : Bytes block) (good : GoodBlock block) (y : 
       let id-in = found-member (r .id) (idsIn l) (s .ids-known r at) in
       subst (λ g. List·Memᴰ (g .id) (blockOf block .ids)) p (subst (List·Memᴰ (r .id)) (same-ids block good l (y .given) (k .books)) id-in)
 
+  -- no new row has a shortfall and a bonus
   new-exclusive : (g : GivenRow) → List·Memᴰ g gs → (g .shortfall ≡ 0) ⊎ (g .bonus ≡ 0)
   unfolding givenOf chargedRow
   new-exclusive g m =
       let (r, at, p) = from-row l (headerOf (c .file)) rs g m in
       subst (λ g. (g .shortfall ≡ 0) ⊎ (g .bonus ≡ 0)) p (exclusive q r)
 
+  -- the ledger after the call has the books of the earlier and the new rows
   new-books : Books block after (y .given ++ gs)
   unfolding after
   new-books = record {
@@ -141,6 +166,7 @@ module _ (block : List ℕ) (bytes : Bytes block) (good : GoodBlock block) (y : 
     committed = λ g m. ⊎-elim (k .books .committed g) (new-committed l (headerOf (c .file)) rs (s .rows) small g) (List·Memᴰ·append-cases (y .given) m);
   }
 
+  -- where the new rows have bonus, the cents carried are fewer than the rows with bonus
   new-rest : 0 < sum (λ g. g .bonus) gs → carriedOn v < rowsWithBonus gs
   unfolding rowsWithBonus givenOf
   new-rest p =
@@ -157,6 +183,7 @@ module _ (block : List ℕ) (bytes : Bytes block) (good : GoodBlock block) (y : 
       written-holds after (y .ledger) after-fits (rw n room)
       (in-order block good after (y .given ++ gs) new-books (omega (arith, early, s .days)) (unfold carriedOn in omega (arith, small)))
 
+  -- so an accepted call keeps the sums, the books, and a ledger that ground 6 does not refuse
   pub accept-kept : Kept block (accept y c)
   unfolding settledLedger assessedFile after
   accept-kept =
@@ -164,7 +191,7 @@ module _ (block : List ℕ) (bytes : Bytes block) (good : GoodBlock block) (y : 
       let back : ledgerOf left ≡ after = ledger-back after (y .ledger) after-fits in
       let carried : word64 left 4 ≡ carriedOn v = carried-word left ∙ ap (λ l. l .carried) back in
       let books = subst (λ l. Books block l (y .given ++ gs)) (sym back) new-books in
-      subst (λ rows. Kept block (record { ledger = left; given = y .given ++ rows; last = rows })) (sym given-rows)
+      subst (λ rows. Kept block (record { ledger = left; given = y .given ++ rows; last = rows })) (sym (given-made (y .ledger) (c .file) (c .result) s))
       (record {
         sums = record {
           closes = rw carried new-closes;
@@ -180,14 +207,17 @@ module _ (block : List ℕ) (bytes : Bytes block) (good : GoodBlock block) (y : 
 
 -- a freshly opened ledger
 module _ (block ledger : List ℕ) (s : BlockAccepted block ledger) where
+  -- the ledger that opening makes of the block
   abbrev opened : Ledger
   opened = openedLedger block
 
+  -- the empty accounts of ids are their accounts by no rows
   empty-accounts : (is : List ℕ) → map emptyAccount is ≡ map (accountByRows []) is
   unfolding emptyAccount accountByRows sumOfPlant largestOfPlant sum
   empty-accounts [] = refl
   empty-accounts (i ∷ is) = ap (λ rest. emptyAccount i ∷ rest) (empty-accounts is)
 
+  -- an opened ledger has the books of no rows
   opened-books : Books block opened []
   unfolding openedLedger sum sumOfPlant largestOfPlant
   opened-books = record {
@@ -199,10 +229,12 @@ module _ (block ledger : List ℕ) (s : BlockAccepted block ledger) where
     committed = λ g m. absurd (List·Memᴰ·not-nil m);
   }
 
+  -- it has as many accounts as the block has ids
   opened-length : length (opened .accounts) ≡ blockOf block .idCount
   unfolding openedLedger
   opened-length = length-map (blockOf block .ids) emptyAccount ∙ length-ids block
 
+  -- its values fit 64 bits, where the block is one of bytes
   pub opened-fits : Bytes block → LedgerFits opened
   unfolding openedLedger emptyAccount
   opened-fits bytes =
@@ -217,9 +249,11 @@ module _ (block ledger : List ℕ) (s : BlockAccepted block ledger) where
             subst AccountFits e (record { id = id-fits block bytes i at; largest = omega arith; charged = omega arith; credited = omega arith });
       }
 
+  -- the ledger buffer has room for it
   pub opened-room : ledgerBytes (length (opened .accounts)) ≤ length ledger
   opened-room = rw opened-length (s .room)
 
+  -- a new year on it has what every call keeps
   pub opened-kept : Bytes block → Kept block (newYear (openedAnswer block ledger .ledger))
   unfolding newYear sum
   opened-kept bytes =

@@ -38,11 +38,13 @@ parts-make-whole f is rise (g ∷ gs) known =
     sum-plus (λ i. cond (eqb (g .id) i) (f g) 0) (λ i. sumOfPlant i f gs) is
     ∙ ap₂ _+_ (one-hit (f g) 0 (known g (List·Memᴰ·head refl)) rise) (parts-make-whole f is rise gs (λ s m. known s (List·Memᴰ·tail m)))
 
+-- a plant's largest commitment in two lists of rows is the larger of that in each
 pub largest-append : (i : ℕ) (xs ys : List GivenRow) → largestOfPlant i (xs ++ ys) ≡ max (largestOfPlant i xs) (largestOfPlant i ys)
 unfolding largestOfPlant
 largest-append i [] ys = omega arith
 largest-append i (g ∷ xs) ys = omega (arith, largest-append i xs ys)
 
+-- a plant's sum over two lists of rows is the sum over the one plus the sum over the other
 pub plant-append : (i : ℕ) (f : GivenRow → ℕ) (xs ys : List GivenRow) → sumOfPlant i f (xs ++ ys) ≡ sumOfPlant i f xs + sumOfPlant i f ys
 unfolding sumOfPlant
 plant-append i f xs ys = sum-append (λ g. cond (eqb (g .id) i) (f g) 0) xs ys

@@ -6,7 +6,7 @@ use mathlib.Core.List.{List, map, List·Memᴰ}
 use mathlib.Core.Bool.{false}
 use lib.ListN.{length, drop}
 use Rattle.words.specs.Lists.{sum}
-use Rattle.words.specs.Words.{Bytes, word64, entries}
+use Rattle.words.specs.Words.{Bytes, word64, wordsIn}
 use Rattle.reading.specs.Block.{blockOf}
 use Rattle.assessment.specs.Assessment.{limit}
 use Rattle.ledger.specs.Ledger.{ledgerOf, ledgerWords, notALedger}
@@ -41,10 +41,6 @@ unfoldable pub NeverLockedOut : Type 0
 NeverLockedOut =
     (block ledger : List ℕ) → Bytes block → opening block ledger .ground ≡ 0
     → (calls : List Call) → notALedger (afterCalls (newYear (opening block ledger .ledger)) calls .ledger) ≡ false
-
--- the first n words of a ledger or a result
-unfoldable pub wordsIn : ℕ → List ℕ → List ℕ
-wordsIn = entries 8 (λ b. word64 b 0)
 
 -- a buffer after words were written to it: each word read back is the number meant, and the bytes beyond are as they were
 pub record Holds (words before after : List ℕ) : Type 0 where

@@ -59,6 +59,10 @@ unfoldable pub afterCalls : Year → List Call → Year
 afterCalls y [] = y
 afterCalls y (c ∷ cs) = afterCalls (afterCall y c) cs
 
+-- rows with bonus: those whose bonus word is above 0
+unfoldable pub rowsWithBonus : List GivenRow → ℕ
+rowsWithBonus = sum (λ g. cond (ltb 0 (g .bonus)) 1 0)
+
 -- a sum over the rows of one plant
 unfoldable pub sumOfPlant : ℕ → (GivenRow → ℕ) → List GivenRow → ℕ
 sumOfPlant i figure = sum (λ g. cond (eqb (g .id) i) (figure g) 0)
@@ -76,7 +80,3 @@ accountByRows gs i = record {
   charged = sumOfPlant i (λ g. g .charge) gs;
   credited = sumOfPlant i (λ g. g .credit) gs;
 }
-
--- rows with bonus
-unfoldable pub rowsWithBonus : List GivenRow → ℕ
-rowsWithBonus = sum (λ g. cond (ltb 0 (g .bonus)) 1 0)

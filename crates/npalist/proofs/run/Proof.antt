@@ -32,8 +32,11 @@ returns c = search needs
 loop-holds : tie.Need-loop-holds Inv-loop μ-loop
 loop-holds c = search needs
 
-list-one-requires : tie.Need-list-one-requires Inv-loop μ-loop
-list-one-requires c κs = search needs
+next-step-requires : tie.Need-next-step-requires Inv-loop μ-loop
+next-step-requires c κs = search needs
+
+print-requires-2 : tie.Need-print-requires-2 Inv-loop μ-loop
+print-requires-2 c κs = search needs
 
 same-length-2 : tie.Need-same-length-2 Inv-loop μ-loop
 same-length-2 c = search needs
@@ -50,15 +53,6 @@ same-length-5 c = search needs
 returns-2 : tie.Need-returns-2 Inv-loop μ-loop
 returns-2 c = search needs
 
-add-number : tie.Need-add-number Inv-loop μ-loop
-add-number c = search needs
-
-loop-less : tie.Need-loop-less Inv-loop μ-loop
-loop-less c = search needs
-
-loop-again : tie.Need-loop-again Inv-loop μ-loop
-loop-again c = search needs
-
 same-length-6 : tie.Need-same-length-6 Inv-loop μ-loop
 same-length-6 c = search needs
 
@@ -74,6 +68,30 @@ same-length-9 c = search needs
 returns-3 : tie.Need-returns-3 Inv-loop μ-loop
 returns-3 c = search needs
 
+add-number : tie.Need-add-number Inv-loop μ-loop
+add-number c = search needs
+
+loop-less : tie.Need-loop-less Inv-loop μ-loop
+loop-less c = search needs
+
+loop-again : tie.Need-loop-again Inv-loop μ-loop
+loop-again c = search needs
+
+same-length-10 : tie.Need-same-length-10 Inv-loop μ-loop
+same-length-10 c = search needs
+
+same-length-11 : tie.Need-same-length-11 Inv-loop μ-loop
+same-length-11 c = search needs
+
+same-length-12 : tie.Need-same-length-12 Inv-loop μ-loop
+same-length-12 c = search needs
+
+same-length-13 : tie.Need-same-length-13 Inv-loop μ-loop
+same-length-13 c = search needs
+
+returns-4 : tie.Need-returns-4 Inv-loop μ-loop
+returns-4 c = search needs
+
 pub run-spec : {M : Type 1} → statement M
 run-spec =
     tie.close
@@ -85,17 +103,23 @@ run-spec =
     same-length
     returns
     loop-holds
-    list-one-requires
+    next-step-requires
+    print-requires-2
     same-length-2
     same-length-3
     same-length-4
     same-length-5
     returns-2
-    add-number
-    loop-less
-    loop-again
     same-length-6
     same-length-7
     same-length-8
     same-length-9
-    returns-3)
+    returns-3
+    add-number
+    loop-less
+    loop-again
+    same-length-10
+    same-length-11
+    same-length-12
+    same-length-13
+    returns-4)

@@ -2,9 +2,10 @@
 use mathlib.Core.Bool.{true, false}
 use mathlib.Core.Path.{_≡_, sym, ap, _∙_}
 use borrow.Author.Needs.{needs}
+use borrow.Author.Tests.{not-true, not-false}
 use Rattle.reading.specs.Interval.{rowAt}
 use Rattle.assessment.specs.Assessment.{Ratio, actual, considered, economic, shortfall, bonus, rowFigures}
-use Rattle.assessment.proofs.RowLaws.{expected-points, outage-points, left-out, counted, not-true, not-false}
+use Rattle.assessment.proofs.RowLaws.{expected-points, outage-points, left-out, counted}
 use Rattle.assessment.proofs.row.row_figures.Statement.{statement}
 use Rattle.assessment.proofs.row.row_figures.Tie as tie
 

@@ -1,14 +1,15 @@
 -- `assessment::sums::ratio_sides` meets its contract. What is left to add is the shares of the rows from i on.
-use Prim.Native.Nat.{_+_, _-_, _*_, _≤_, _<_}
+use Prim.Native.Nat.{_+_, _-_, _*_, _≤_}
 use mathlib.Core.Path.{_≡_, ap, ap₂}
 use mathlib.Core.Bool.{false}
 use native.Mathlib.Omega.{arith}
 use borrow.Author.Needs.{needs}
 use Rattle.words.specs.Lists.{sum, any}
+use Rattle.words.proofs.Lists.{sum-start, sum-turn, sum-end, none-start, none-turn}
 use Rattle.reading.specs.Interval.{headerOf, rowsOf}
-use Rattle.reading.proofs.Walk.{rowsLeft}
+use Rattle.reading.proofs.Walk.{rowsLeft, rows-start, rows-turn, rows-end}
 use Rattle.assessment.specs.Assessment.{numeratorShare, numerator, denominator}
-use Rattle.assessment.proofs.SumLaws.{lowerShare, part-length, curve-within, lower-in-parts, sum-start, sum-turn, sum-end, fails, fails-start, fails-turn, row-in-parts}
+use Rattle.assessment.proofs.SumLaws.{lowerShare, part-length, curve-within, lower-in-parts, fails, row-in-parts}
 use Rattle.assessment.proofs.sums.ratio_sides.Statement.{statement}
 use Rattle.assessment.proofs.sums.ratio_sides.Tie as tie
 
@@ -35,7 +36,7 @@ unfolding headerOf
 loop-holds c =
     let start = c .before .before .before in
     let f = start .args .file .now in
-    (c .word2 .ensures .0, (c .before .word .ensures .0, (omega arith, (sum-start f numeratorShare, (sum-start f lowerShare, (omega arith, (omega arith, fails-start f (start .pre .1 .1 .1 .1))))))))
+    (c .word2 .ensures .0, (c .before .word .ensures .0, (omega arith, (sum-start numeratorShare (rows-start f), (sum-start lowerShare (rows-start f), (omega arith, (omega arith, none-start (fails f) (rows-start f) (start .pre .1 .1 .1 .1))))))))
 
 mul-row : tie.Need-mul-row Inv-loop μ-loop
 mul-row c = search needs
@@ -60,7 +61,7 @@ curve-at-requires c κs =
     let i = l .loop .i in
     let inv = l .loop .inv in
     let at = l .before .word2 .result + 56 * i in
-    let turn = fails-turn f i (omega arith) (inv .1 .1 .1 .1 .1 .1 .1) in
+    let turn = none-turn (fails f) (rows-turn f i (omega arith)) (inv .1 .1 .1 .1 .1 .1 .1) in
     (start .pre .0, (omega (arith, part-length f at), curve-within f i at (ap (λ x. x + 56 * i) (inv .0)) (turn .0) (start .pre .1 .1 .1 .0)))
 
 sub-numerator-share : tie.Need-sub-numerator-share Inv-loop μ-loop
@@ -131,8 +132,8 @@ loop-again c =
     let upper = row-in-parts f numeratorShare i at (curve .result) (more .result .0) place (curve .ensures .0) (more .ensures .0) in
     let lower = lower-in-parts f i at (curve .result) (less .result .0) place (curve .ensures .0) (less .ensures .0) in
     let sums = inv .1 .1 .1 in
-    let on : i < headerOf f .rowCount = omega (arith, inv .1 .0, turn .loop-test .taken) in
-    (inv .0, (inv .1 .0, (omega (arith, turn .loop-test .taken), (sum-turn f numeratorShare i _ _ _ on (sums .0) upper, (sum-turn f lowerShare i _ _ _ on (sums .1 .0) lower, (omega (arith, more .ensures .1), (omega (arith, less .ensures .1), fails-turn f i on (sums .1 .1 .1 .1) .1)))))))
+    let left = rows-turn f i (omega (arith, inv .1 .0, turn .loop-test .taken)) in
+    (inv .0, (inv .1 .0, (omega (arith, turn .loop-test .taken), (sum-turn numeratorShare _ _ _ left (sums .0) upper, (sum-turn lowerShare _ _ _ left (sums .1 .0) lower, (omega (arith, more .ensures .1), (omega (arith, less .ensures .1), none-turn (fails f) left (sums .1 .1 .1 .1) .1)))))))
 
 import-share-requires : tie.Need-import-share-requires Inv-loop μ-loop
 import-share-requires c κs = search needs
@@ -146,7 +147,8 @@ returns c =
     let l = c .before .before .before in
     let f = l .before .before .before .before .args .file .now in
     let sums = l .loop .inv .1 .1 .1 in
-    (ap₂ _+_ (sum-end f numeratorShare (l .loop .i) _ _ (omega arith) (sums .0)) (c .before .import-share .ensures .0), sum-end f lowerShare (l .loop .i) _ _ (omega arith) (sums .1 .0))
+    let none = rows-end f (l .loop .i) (omega arith) in
+    (ap₂ _+_ (sum-end numeratorShare _ _ none (sums .0)) (c .before .import-share .ensures .0), sum-end lowerShare _ _ none (sums .1 .0))
 
 pub ratio-sides-spec : {M : Type 1} → statement M
 ratio-sides-spec =

@@ -1,10 +1,12 @@
 -- `ledger::held::accounts_outside` meets its contract. What is left to test is the accounts from j on.
 use Prim.Native.Nat.{_≤_, _-_}
-use mathlib.Core.Path.{_≡_, sym, _∙_}
+use mathlib.Core.Path.{_≡_, sym, ap, _∙_}
+use mathlib.Core.Bool.{true, false}
 use native.Mathlib.Omega.{arith}
-use Rattle.ledger.specs.Ledger.{ledgerBytes, accountCount, ledgerOf}
-use Rattle.ledger.proofs.Accounts.{accountsLeft}
-use Rattle.ledger.proofs.HeldTests.{oneOutside, outside-start, outside-read, account-fails, account-passes, accounts-pass}
+use Rattle.words.proofs.Lists.{any-turn, any-end}
+use Rattle.ledger.specs.Ledger.{ledgerBytes, accountCount, ledgerOf, accountOutside}
+use Rattle.ledger.proofs.Accounts.{accountsLeft, accounts-start, accounts-turn, accounts-end}
+use Rattle.ledger.proofs.HeldTests.{oneOutside, outside-read}
 use Rattle.ledger.proofs.held.accounts_outside.Statement.{statement}
 use Rattle.ledger.proofs.held.accounts_outside.Tie as tie
 
@@ -31,7 +33,7 @@ word-requires-3 c κs = omega arith
 
 loop-holds : tie.Need-loop-holds Inv-loop μ-loop
 unfolding ledgerOf accountCount
-loop-holds c = (c .before .before .word .ensures, (c .before .word2 .ensures, (c .word3 .ensures, (omega arith, outside-start _))))
+loop-holds c = (c .before .before .word .ensures, (c .before .word2 .ensures, (c .word3 .ensures, (omega arith, ap (oneOutside _) (accounts-start _)))))
 
 account-at-requires : tie.Need-account-at-requires Inv-loop μ-loop
 unfolding ledgerBytes
@@ -47,7 +49,7 @@ returns c =
     let b = l .before .before .before .before .before .args .ledger .now in
     let inv = l .loop .inv in
     let says = outside-read b (l .loop .j) _ _ _ _ _ _ _ (inv .0) (inv .1 .0) (test .before .account-at .ensures) (test .account-outside .ensures) in
-    sym (account-fails b (l .loop .j) (inv .1 .1 .1 .1) (omega arith) (says ∙ c .if1 .taken))
+    sym (any-turn (accountOutside (ledgerOf b .terms)) true (inv .1 .1 .1 .1) (accounts-turn b (l .loop .j) (omega arith)) (says ∙ c .if1 .taken))
 
 add-j : tie.Need-add-j Inv-loop μ-loop
 add-j c = omega arith
@@ -62,12 +64,13 @@ loop-again c =
     let b = l .before .before .before .before .before .args .ledger .now in
     let inv = l .loop .inv in
     let says = outside-read b (l .loop .j) _ _ _ _ _ _ _ (inv .0) (inv .1 .0) (test .before .account-at .ensures) (test .account-outside .ensures) in
-    (inv .0, (inv .1 .0, (inv .1 .1 .0, (omega arith, account-passes b (l .loop .j) (inv .1 .1 .1 .1) (omega arith) (says ∙ c .if1 .left)))))
+    (inv .0, (inv .1 .0, (inv .1 .1 .0, (omega arith, any-turn (accountOutside (ledgerOf b .terms)) false (inv .1 .1 .1 .1) (accounts-turn b (l .loop .j) (omega arith)) (says ∙ c .if1 .left)))))
 
 returns-2 : tie.Need-returns-2 Inv-loop μ-loop
 returns-2 c =
     let l = c .before in
-    sym (accounts-pass _ (l .loop .j) (l .loop .inv .1 .1 .1 .1) (omega arith))
+    let b = l .before .before .before .before .before .args .ledger .now in
+    sym (any-end (accountOutside (ledgerOf b .terms)) (l .loop .inv .1 .1 .1 .1) (accounts-end b (l .loop .j) (omega arith)))
 
 pub accounts-outside-spec : {M : Type 1} → statement M
 accounts-outside-spec =

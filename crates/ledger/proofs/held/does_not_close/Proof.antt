@@ -3,9 +3,10 @@ use Prim.Native.Nat.{_+_, _-_, _≤_}
 use mathlib.Core.Path.{_≡_, sym}
 use native.Mathlib.Omega.{arith}
 use Rattle.words.specs.Lists.{sum}
+use Rattle.words.proofs.Lists.{sum-start, sum-turn, sum-end}
 use Rattle.ledger.specs.Ledger.{ledgerBytes, accountCount, ledgerOf}
-use Rattle.ledger.proofs.Accounts.{accountsLeft}
-use Rattle.ledger.proofs.HeldTests.{sum-start, sum-turn, sum-end, charged-sum, credited-sum, sums-test}
+use Rattle.ledger.proofs.Accounts.{accountsLeft, accounts-start, accounts-turn, accounts-end}
+use Rattle.ledger.proofs.HeldTests.{charged-sum, credited-sum, sums-test}
 use Rattle.ledger.proofs.held.does_not_close.Statement.{statement}
 use Rattle.ledger.proofs.held.does_not_close.Tie as tie
 
@@ -25,7 +26,7 @@ word-requires c κs = omega arith
 
 loop-holds : tie.Need-loop-holds Inv-loop μ-loop
 unfolding accountCount
-loop-holds c = (c .word .ensures, (omega arith, (sum-start _ (λ a. a .charged), sum-start _ (λ a. a .credited))))
+loop-holds c = (c .word .ensures, (omega arith, (sum-start (λ a. a .charged) (accounts-start _), sum-start (λ a. a .credited) (accounts-start _))))
 
 account-at-requires : tie.Need-account-at-requires Inv-loop μ-loop
 unfolding ledgerBytes
@@ -37,7 +38,7 @@ add-charged c =
     let start = l .before .before .before in
     let b = start .args .ledger .now in
     let pre = start .pre in
-    let turn = sum-turn b (λ a. a .charged) (l .loop .j) _ _ _ (omega arith) (l .loop .inv .1 .1 .0) (c .before .account-at .ensures .2) in
+    let turn = sum-turn (λ a. a .charged) _ _ _ (accounts-turn b (l .loop .j) (omega arith)) (l .loop .inv .1 .1 .0) (c .before .account-at .ensures .2) in
     omega (arith, turn, charged-sum b (pre .0) (pre .1 .1 .0) (pre .1 .1 .1 .0) (pre .1 .1 .1 .1 .1))
 
 add-credited : tie.Need-add-credited Inv-loop μ-loop
@@ -46,7 +47,7 @@ add-credited c =
     let start = l .before .before .before in
     let b = start .args .ledger .now in
     let pre = start .pre in
-    let turn = sum-turn b (λ a. a .credited) (l .loop .j) _ _ _ (omega arith) (l .loop .inv .1 .1 .1) (c .before .before .account-at .ensures .3) in
+    let turn = sum-turn (λ a. a .credited) _ _ _ (accounts-turn b (l .loop .j) (omega arith)) (l .loop .inv .1 .1 .1) (c .before .before .account-at .ensures .3) in
     omega (arith, turn, credited-sum b (pre .0) (pre .1 .1 .0) (pre .1 .1 .1 .0) (pre .1 .1 .1 .1 .1))
 
 add-j : tie.Need-add-j Inv-loop μ-loop
@@ -61,8 +62,9 @@ loop-again c =
     let b = l .before .before .before .args .ledger .now in
     let inv = l .loop .inv in
     let a = c .before .before .account-at .ensures in
-    let charged = sum-turn b (λ a. a .charged) (l .loop .j) _ _ _ (omega arith) (inv .1 .1 .0) (a .2) in
-    let credited = sum-turn b (λ a. a .credited) (l .loop .j) _ _ _ (omega arith) (inv .1 .1 .1) (a .3) in
+    let left = accounts-turn b (l .loop .j) (omega arith) in
+    let charged = sum-turn (λ a. a .charged) _ _ _ left (inv .1 .1 .0) (a .2) in
+    let credited = sum-turn (λ a. a .credited) _ _ _ left (inv .1 .1 .1) (a .3) in
     (inv .0, (omega arith, (charged, credited)))
 
 word-requires-2 : tie.Need-word-requires-2 Inv-loop μ-loop
@@ -85,8 +87,9 @@ returns c =
     let l = c .before .before in
     let b = l .before .before .before .args .ledger .now in
     let sums = l .loop .inv .1 .1 in
-    let charged = sum-end b (λ a. a .charged) (l .loop .j) _ _ (omega arith) (sums .0) in
-    let credited = sum-end b (λ a. a .credited) (l .loop .j) _ _ (omega arith) (sums .1) in
+    let none = accounts-end b (l .loop .j) (omega arith) in
+    let charged = sum-end (λ a. a .charged) _ _ none (sums .0) in
+    let credited = sum-end (λ a. a .credited) _ _ none (sums .1) in
     sym (sums-test b _ _ _ charged credited (c .word2 .ensures))
 
 pub does-not-close-spec : {M : Type 1} → statement M

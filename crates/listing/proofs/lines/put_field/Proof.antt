@@ -1,27 +1,17 @@
--- `listing::lines::put_field` meets its contract. The comma stands behind the digits.
-use native.Mathlib.Omega.{arith}
+-- `listing::lines::put_field` meets its contract. A number that ends in a comma.
 use borrow.Author.Needs.{needs}
-use Rattle.listing.proofs.LineLaws.{comma, number-then}
+use Rattle.listing.proofs.LineLaws.{comma}
 use Rattle.listing.proofs.lines.put_field.Statement.{statement}
 use Rattle.listing.proofs.lines.put_field.Tie as tie
 
-put-decimal-requires : tie.Need-put-decimal-requires
-put-decimal-requires c κs = search needs
-
-put-byte-requires : tie.Need-put-byte-requires
-put-byte-requires c κs = search needs
+put-ended-requires : tie.Need-put-ended-requires
+put-ended-requires c κs = search needs
 
 same-length : tie.Need-same-length
 same-length c = search needs
 
 returns : tie.Need-returns
-returns c =
-    let byte = c .before .before in
-    let number = byte .before .before .before .before in
-    let both =
-    number-then _ _ _ _ _ _ _ _ (omega arith) (number .put-decimal .ensures .0) (number .put-decimal .ensures .1 .0) (byte .put-byte .ensures .0) (byte .put-byte .ensures .1)
-    in
-    rw comma (both .0, (both .1, omega arith))
+returns c = rw comma (c .before .before .put-ended .ensures)
 
 pub put-field-spec : {M : Type 1} → statement M
-put-field-spec = tie.close (tie.spec put-decimal-requires put-byte-requires same-length returns)
+put-field-spec = tie.close (tie.spec put-ended-requires same-length returns)

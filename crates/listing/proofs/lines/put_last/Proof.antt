@@ -1,27 +1,17 @@
--- `listing::lines::put_last` meets its contract. The newline stands behind the digits.
-use native.Mathlib.Omega.{arith}
+-- `listing::lines::put_last` meets its contract. A number that ends in a newline.
 use borrow.Author.Needs.{needs}
-use Rattle.listing.proofs.LineLaws.{last-of-line, number-then}
+use Rattle.listing.proofs.LineLaws.{last-of-line}
 use Rattle.listing.proofs.lines.put_last.Statement.{statement}
 use Rattle.listing.proofs.lines.put_last.Tie as tie
 
-put-decimal-requires : tie.Need-put-decimal-requires
-put-decimal-requires c κs = search needs
-
-put-byte-requires : tie.Need-put-byte-requires
-put-byte-requires c κs = search needs
+put-ended-requires : tie.Need-put-ended-requires
+put-ended-requires c κs = search needs
 
 same-length : tie.Need-same-length
 same-length c = search needs
 
 returns : tie.Need-returns
-returns c =
-    let byte = c .before .before in
-    let number = byte .before .before .before .before in
-    let both =
-    number-then _ _ _ _ _ _ _ _ (omega arith) (number .put-decimal .ensures .0) (number .put-decimal .ensures .1 .0) (byte .put-byte .ensures .0) (byte .put-byte .ensures .1)
-    in
-    rw last-of-line (both .0, (both .1, omega arith))
+returns c = rw last-of-line (c .before .before .put-ended .ensures)
 
 pub put-last-spec : {M : Type 1} → statement M
-put-last-spec = tie.close (tie.spec put-decimal-requires put-byte-requires same-length returns)
+put-last-spec = tie.close (tie.spec put-ended-requires same-length returns)

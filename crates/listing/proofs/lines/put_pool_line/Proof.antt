@@ -1,8 +1,7 @@
 -- `listing::lines::put_pool_line` meets its contract. The word, the interval and the four words stand one behind the other.
 use native.Mathlib.Omega.{arith}
 use borrow.Author.Needs.{needs}
-use Rattle.words.specs.Words.{entries}
-use Rattle.year.specs.Claims.{wordsIn}
+use Rattle.words.specs.Words.{entries, wordsIn}
 use Rattle.listing.specs.Lines.{text, line}
 use Rattle.listing.specs.Npalist.{poolLine}
 use Rattle.listing.proofs.Placing.{three-placed}

@@ -1,8 +1,7 @@
 -- `listing::lines::put_row_line` meets its contract. The interval, the id and the words stand one behind the other.
 use native.Mathlib.Omega.{arith}
 use borrow.Author.Needs.{needs}
-use Rattle.words.specs.Words.{entries}
-use Rattle.year.specs.Claims.{wordsIn}
+use Rattle.words.specs.Words.{entries, wordsIn}
 use Rattle.listing.specs.Lines.{line}
 use Rattle.listing.proofs.Placing.{three-placed}
 use Rattle.listing.proofs.lines.put_row_line.Statement.{statement}

@@ -13,7 +13,7 @@ returns : tie.Need-returns
 returns c = sym (ids-none _ _ (c .before .id-count .ensures .0) (omega arith))
 
 returns-2 : tie.Need-returns-2
-returns-2 c = sym (ids-many _ _ (c .before .before .id-count .ensures .0) (omega arith) (omega arith))
+returns-2 c = sym (ids-many _ _ (c .before .before .id-count .ensures .0) (omega arith))
 
 ids-offset-requires : tie.Need-ids-offset-requires
 ids-offset-requires c κs = search needs

@@ -3,11 +3,11 @@ use Prim.Native.Nat.{_≤_, _-_}
 use mathlib.Core.Path.{_≡_, refl, sym}
 use native.Mathlib.Omega.{arith}
 use borrow.Author.Needs.{needs}
-use lib.ListN.{drop}
+use lib.ListN.{drop, drop-of-length-le}
 use Rattle.words.specs.Lists.{risesAbove}
 use Rattle.reading.specs.Block.{blockOf}
 use Rattle.reading.proofs.Bounds.{length-ids}
-use Rattle.reading.proofs.Order.{order-broken, order-goes-on, order-holds}
+use Rattle.reading.proofs.Order.{next-at, order-broken, order-goes-on, order-holds}
 use Rattle.reading.proofs.block.ids_out_of_order.Statement.{statement}
 use Rattle.reading.proofs.block.ids_out_of_order.Tie as tie
 
@@ -31,7 +31,7 @@ returns c =
     let l = c .before .before .before in
     let is = blockOf (l .before .before .before .args .block .now) .ids in
     let n = length-ids (l .before .before .before .args .block .now) in
-    sym (order-broken is (l .loop .last) (l .loop .i) (l .loop .inv .1) (omega (arith, n)) (omega (arith, c .before .id-at .ensures)))
+    sym (order-broken is (l .loop .last) (l .loop .inv .1) (next-at is (l .loop .i) (omega (arith, n)) (c .before .id-at .ensures)) (omega arith))
 
 add-i : tie.Need-add-i Inv-loop μ-loop
 add-i c = search needs
@@ -44,15 +44,14 @@ loop-again c =
     let l = c .before .before .before in
     let is = blockOf (l .before .before .before .args .block .now) .ids in
     let n = length-ids (l .before .before .before .args .block .now) in
-    let id = c .before .id-at .ensures in
-    (omega arith, rw id (order-goes-on is (l .loop .last) (l .loop .i) (l .loop .inv .1) (omega (arith, n)) (omega (arith, id))))
+    (omega arith, order-goes-on is (l .loop .last) (l .loop .inv .1) (next-at is (l .loop .i) (omega (arith, n)) (c .before .id-at .ensures)) (omega arith))
 
 returns-2 : tie.Need-returns-2 Inv-loop μ-loop
 returns-2 c =
     let l = c .before in
     let is = blockOf (l .before .before .before .args .block .now) .ids in
     let n = length-ids (l .before .before .before .args .block .now) in
-    sym (order-holds is (l .loop .last) (l .loop .i) (l .loop .inv .1) (omega (arith, n)))
+    sym (order-holds is (l .loop .last) (l .loop .inv .1) (drop-of-length-le is {i = l .loop .i} (omega (arith, n))))
 
 pub ids-out-of-order-spec : {M : Type 1} → statement M
 ids-out-of-order-spec =

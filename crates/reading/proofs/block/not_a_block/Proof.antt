@@ -14,7 +14,7 @@ returns : tie.Need-returns
 returns c = sym (block-short _ (omega arith))
 
 returns-2 : tie.Need-returns-2
-returns-2 c = sym (block-long _ (omega arith) (omega arith))
+returns-2 c = sym (block-long _ (omega arith))
 
 word32-requires : tie.Need-word32-requires
 word32-requires c κs = search needs

@@ -9,7 +9,7 @@ returns : tie.Need-returns
 returns c = sym (cone-low _ (omega arith))
 
 returns-2 : tie.Need-returns-2
-returns-2 c = sym (cone-high _ (omega arith) (omega arith))
+returns-2 c = sym (cone-high _ (omega arith))
 
 returns-3 : tie.Need-returns-3
 returns-3 c = sym (days-common _ (omega arith) (omega arith) (omega arith))

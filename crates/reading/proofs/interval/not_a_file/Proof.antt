@@ -11,7 +11,7 @@ returns : tie.Need-returns
 returns c = sym (file-short _ (omega arith))
 
 returns-2 : tie.Need-returns-2
-returns-2 c = sym (file-long _ (omega arith) (omega arith))
+returns-2 c = sym (file-long _ (omega arith))
 
 word-requires : tie.Need-word-requires
 word-requires c κs = omega arith

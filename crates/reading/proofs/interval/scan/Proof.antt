@@ -7,9 +7,10 @@ use native.Mathlib.Omega.{arith}
 use lib.ListN.{length}
 use Rattle.words.specs.Lists.{any}
 use Rattle.words.specs.Words.{word32}
+use Rattle.words.proofs.Lists.{any-end}
 use Rattle.reading.specs.Interval.{Row, headerOf, rowAt, pointsFrom, rowsOf, rowOutside, pointsOutside}
 use Rattle.reading.proofs.CurveTests.{misplaced, points-within, refused}
-use Rattle.reading.proofs.Walk.{curveLeft, Curve, curve-part, rowPart, row-part, rowsLeft, rows-start, row-fails, row-passes, rows-pass, curve-fails, curve-begins, all-pass, point-fails, point-passes, curve-passes}
+use Rattle.reading.proofs.Walk.{curveLeft, Curve, curve-part, rowPart, row-part, rowsLeft, rows-start, rows-end, row-turn, row-fails, curve-fails, curve-begins, all-pass, point-fails, point-passes, curve-passes}
 use Rattle.reading.proofs.interval.scan.Statement.{statement}
 use Rattle.reading.proofs.interval.scan.Tie as tie
 
@@ -97,13 +98,13 @@ loop-again c =
     let i = l .loop .i in
     let part = row-part f i (w .before .before .word2 .ensures .0) in
     let says = ap (λ b. rowOutside (rowAt b [])) (sym part) ∙ sym (c .before .row-outside .ensures) in
-    (omega arith, row-passes f i (l .loop .inv .1) (omega arith) (says ∙ c .if1 .left))
+    (omega arith, row-turn f i (l .loop .inv .1) false (omega arith) (says ∙ c .if1 .left))
 
 loop2-holds : tie.Need-loop2-holds Inv-loop μ-loop Inv-loop3 μ-loop3 Inv-loop2 μ-loop2 Inv-scan μ-scan
 unfolding headerOf
 loop2-holds c =
     let f = c .before .before .before .before .before .before .before .before .args .file .now in
-    (omega arith, rows-pass f (c .before .loop .i) (c .before .loop .inv .1) (omega arith), ap (faults f) (rows-start f))
+    (omega arith, any-end rowOutside (c .before .loop .inv .1) (rows-end f (c .before .loop .i) (omega arith)), ap (faults f) (rows-start f))
 
 mul-row : tie.Need-mul-row Inv-loop μ-loop Inv-loop3 μ-loop3 Inv-loop2 μ-loop2 Inv-scan μ-scan
 mul-row c = omega arith

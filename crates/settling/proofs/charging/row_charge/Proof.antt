@@ -3,7 +3,7 @@ use Prim.Native.Nat.{_≤_}
 use native.Mathlib.Omega.{arith}
 use borrow.Author.Needs.{needs}
 use Rattle.assessment.specs.Assessment.{Account, raised}
-use Rattle.settling.proofs.ChargingLaws.{charge-raised}
+use Rattle.assessment.proofs.ChargeLaws.{charge-raised}
 use Rattle.settling.proofs.charging.row_charge.Statement.{statement}
 use Rattle.settling.proofs.charging.row_charge.Tie as tie
 
