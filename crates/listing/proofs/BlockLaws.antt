@@ -9,7 +9,7 @@ use lib.ListN.{length, drop, getD, set, replicate, length-append, length-replica
 use lib.Seq.{drop-drop, drop-cons, set-at, append-snoc}
 use lib.Dec.{eqb}
 use borrow.Author.Tests.{eq-eqb, ne-eqb}
-use Rattle.words.specs.Words.{wordsIn}
+use Rattle.words.specs.Words.{wordsIn, placedAt}
 use Rattle.words.specs.Lists.{any}
 use Rattle.words.proofs.Tests.{facts}
 use Rattle.words.proofs.Grounds.{none-applies}
@@ -20,9 +20,9 @@ use Rattle.ledger.specs.Ledger.{ledgerBytes}
 use Rattle.ledger.specs.Opening.{opening}
 use Rattle.settling.specs.Settling.{resultHeaderBytes, resultRowBytes, resultTooShort, settlingGrounds, SettlingAnswer, settling}
 use Rattle.settling.proofs.Accepted.{settling-none}
-use Rattle.listing.specs.Lines.{line, refusedLine, placedAt}
+use Rattle.listing.specs.Lines.{line, refusedLine}
 use Rattle.listing.specs.Npalist.{rowLines, poolLine, intervalLines, ledgerBuffer, resultBuffer, openingListed, intervalListed}
-use Rattle.listing.proofs.Placing.{place-none, then-place, place-rest}
+use Rattle.words.proofs.Placing.{place-none, then-place, place-rest}
 
 -- one more byte filled with zero
 pub clear-turn : (i : ℕ) (b₀ b : List ℕ) → i < length b₀ → b ≡ replicate i 0 ++ drop i b₀ → set b i 0 ≡ replicate (i + 1) 0 ++ drop (i + 1) b₀

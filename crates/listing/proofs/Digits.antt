@@ -8,8 +8,9 @@ use native.Mathlib.Omega.{arith}
 use lib.ListN.{length, set, length-append}
 use lib.Dec.{ltb}
 use borrow.Author.Tests.{lt-ltb, le-ltb, ltb-true, ltb-false}
-use Rattle.listing.specs.Lines.{digits, decimal, placedAt}
-use Rattle.listing.proofs.Placing.{place-byte, place-last}
+use Rattle.words.specs.Words.{placedAt}
+use Rattle.listing.specs.Lines.{digits, decimal}
+use Rattle.words.proofs.Placing.{place-byte, place-last}
 
 -- a number below ten is its own last digit
 pub one-digit : (n v : ℕ) → v < 10 → digits (suc n) v ≡ (48 + v) ∷ []

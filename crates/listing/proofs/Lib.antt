@@ -1,6 +1,5 @@
 pub mod Computing
 pub mod Figures
-pub mod Placing
 pub mod Digits
 pub mod LineLaws
 pub mod BlockLaws

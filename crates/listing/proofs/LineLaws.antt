@@ -5,9 +5,9 @@ use mathlib.Core.List.{List, [], _∷_, _++_}
 use native.Mathlib.Omega.{arith}
 use lib.ListN.{length, drop, length-append}
 use lib.Seq.{drop-drop}
-use Rattle.words.specs.Words.{number, numberAt, word64, entries, wordsIn}
-use Rattle.listing.specs.Lines.{text, decimal, line, placedAt}
-use Rattle.listing.proofs.Placing.{then-place, place-rest}
+use Rattle.words.specs.Words.{number, numberAt, word64, entries, wordsIn, placedAt}
+use Rattle.listing.specs.Lines.{text, decimal, line}
+use Rattle.words.proofs.Placing.{then-place, place-rest}
 use Rattle.listing.proofs.Digits.{decimal-most}
 
 -- a number and one byte behind it

@@ -8,8 +8,8 @@ use native.Mathlib.Omega.{arith}
 use lib.ListN.{length, take, drop, length-drop}
 use lib.Dec.{eqb}
 use borrow.Author.Tests.{lt-ltb, le-ltb, eq-eqb, ne-eqb}
-use Rattle.words.specs.Words.{numberAt, word32}
-use Rattle.listing.specs.Lines.{refusedLine, cutLine, placedAt}
+use Rattle.words.specs.Words.{numberAt, word32, placedAt}
+use Rattle.listing.specs.Lines.{refusedLine, cutLine}
 use Rattle.listing.specs.Npalist.{Next, nextBlock, Listed, blockListed, stopped, mostBytes, bytesDue, listed}
 
 -- a stream s, with blocks of at most so many bytes

@@ -4,7 +4,6 @@ use Prim.Native.Char.{code}
 use Prim.Native.String.{String}
 use mathlib.Core.List.{List, [], _∷_, _++_}
 use mathlib.Core.Bool.{cond}
-use lib.ListN.{length, take, drop}
 use lib.Dec.{ltb}
 
 -- the bytes of a text of ASCII characters
@@ -42,7 +41,3 @@ refusedLine block ground = text "refused," ++ line (block ∷ ground ∷ [])
 -- a stream cut off: no opening, or not all of a length or a block
 unfoldable pub cutLine : ℕ → List ℕ
 cutLine block = text "cut," ++ line (block ∷ [])
-
--- a buffer with these bytes at a place, and the bytes before and beyond them as they were
-unfoldable pub placedAt : ℕ → List ℕ → List ℕ → List ℕ
-placedAt at bs b = take at b ++ bs ++ drop (at + length bs) b

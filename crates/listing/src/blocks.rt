@@ -16,8 +16,8 @@ use settling::grounds::RESULT_ROW_BYTES;
 ghost use mathlib.Core.Path.{_≡_};
 ghost use Prim.Native.Nat.{_+_, _*_, _≤_};
 ghost use lib.ListN.{length, drop, replicate};
+ghost use Rattle.words.specs.Words.{placedAt};
 ghost use Rattle.reading.specs.Interval.{headerOf, rowsOf};
-ghost use Rattle.listing.specs.Lines.{placedAt};
 ghost use Rattle.listing.specs.Npalist.{rowLines, openingListed, intervalListed, blockListed};
 
 // What a block comes to: the end of the bytes to print, and whether the listing goes on.

@@ -6,8 +6,8 @@ ghost use mathlib.Core.Path.{_≡_};
 ghost use mathlib.Core.List.{_∷_, [], _++_};
 ghost use Prim.Native.Nat.{_+_, _*_, _≤_, _<_};
 ghost use lib.ListN.{length};
-ghost use Rattle.words.specs.Words.{wordsIn};
-ghost use Rattle.listing.specs.Lines.{text, decimal, line, heading, refusedLine, cutLine, placedAt};
+ghost use Rattle.words.specs.Words.{wordsIn, placedAt};
+ghost use Rattle.listing.specs.Lines.{text, decimal, line, heading, refusedLine, cutLine};
 ghost use Rattle.listing.specs.Npalist.{poolLine};
 
 // The heading, for every program that prints lines.

@@ -3,7 +3,8 @@
 ghost use mathlib.Core.Path.{_≡_};
 ghost use Prim.Native.Nat.{_+_, _≤_, _<_};
 ghost use lib.ListN.{length};
-ghost use Rattle.listing.specs.Lines.{decimal, placedAt};
+ghost use Rattle.words.specs.Words.{placedAt};
+ghost use Rattle.listing.specs.Lines.{decimal};
 
 const BASE: u64 = 10;
 

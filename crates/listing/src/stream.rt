@@ -13,7 +13,8 @@ ghost use mathlib.Core.Bool.{false, cond};
 ghost use Prim.Native.Nat.{_+_, _*_, _≤_};
 ghost use lib.ListN.{length};
 ghost use lib.Dec.{eqb};
-ghost use Rattle.listing.specs.Lines.{cutLine, placedAt};
+ghost use Rattle.words.specs.Words.{placedAt};
+ghost use Rattle.listing.specs.Lines.{cutLine};
 ghost use Rattle.listing.specs.Npalist.{mostBytes, bytesDue, nextBlock, listed};
 
 pub const LENGTH_BYTES: usize = 4;

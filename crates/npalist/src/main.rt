@@ -9,7 +9,7 @@ use listing::stream::list_next;
 ghost use mathlib.Core.Path.{_≡_};
 ghost use Prim.Native.Nat.{_+_, _*_, _≤_};
 ghost use lib.ListN.{length, take};
-ghost use Rattle.listing.specs.Lines.{placedAt};
+ghost use Rattle.words.specs.Words.{placedAt};
 ghost use Rattle.listing.specs.Npalist.{mostBytes, bytesDue, nextBlock, listed};
 
 // A loop that is proved has to end, and nothing says that standard input does: no stream has so many blocks.

@@ -10,7 +10,7 @@ use lib.Dec.{eqb}
 use lib.Seq.{drop-drop, drop-at, length-take-le, getD-append-add}
 use Rattle.words.specs.Lists.{sum, any}
 use Rattle.words.specs.Words.{bytesOfWords, written, writtenAt}
-use Rattle.words.proofs.Lists.{sum-most, member-le}
+use Rattle.words.proofs.Lists.{sum-most, member-le, EachBelow, below-nil, below-cons, below-at}
 use Rattle.words.proofs.Access.{words-append}
 use Rattle.words.proofs.Tests.{not-first, not-second}
 use Rattle.reading.specs.Block.{Terms}
@@ -55,21 +55,26 @@ unfolding rowWords
 length-row-words v [] = refl
 length-row-words v (c ∷ cs) = omega (arith, length-row-words v cs)
 
--- each word of a list is at most so much
-record AllAtMost (most : ℕ) (ws : List ℕ) : Type 0 where
-  pub each : (k : ℕ) → getD ws k 0 ≤ most
+-- the eight words of a row in the result are below a bound
+pub record RowBelow (n : ℕ) (v : Assessed) (c : ChargedRow) : Type 0 where
+  pub expected : c .figures .expected < n
+  pub actual : c .figures .actual < n
+  pub outage : c .figures .outage < n
+  pub economic : c .figures .economic < n
+  pub shortfall : c .figures .shortfall < n
+  pub bonus : c .figures .bonus < n
+  pub charge : c .charge < n
+  pub credit : credit v c < n
 
--- of no words, each is at most so much
-none-at-most : (most : ℕ) → AllAtMost most []
-none-at-most most = record { each = λ k. omega arith }
-
--- with one more word of at most so much in front, each still is
-cons-at-most : (most w : ℕ) (ws : List ℕ) → w ≤ most → AllAtMost most ws → AllAtMost most (w ∷ ws)
-cons-at-most most w ws h later = record { each = by }
-  where
-    by : (k : ℕ) → getD (w ∷ ws) k 0 ≤ most
-    by zero = h
-    by (suc k) = later .each k
+-- and so are those of several rows
+pub row-words-below : (n : ℕ) (v : Assessed) (cs : List ChargedRow) → ((c : ChargedRow) → List·Memᴰ c cs → RowBelow n v c) → EachBelow n (rowWords v cs)
+unfolding rowWords
+row-words-below n v [] each = below-nil
+row-words-below n v (c ∷ cs) each =
+    let w = each c (List·Memᴰ·head refl) in
+    let later = row-words-below n v cs (λ d m. each d (List·Memᴰ·tail m)) in
+    let last = below-cons _ _ (w .bonus) (below-cons _ _ (w .charge) (below-cons _ _ (w .credit) later)) in
+    below-cons _ _ (w .expected) (below-cons _ _ (w .actual) (below-cons _ _ (w .outage) (below-cons _ _ (w .economic) (below-cons _ _ (w .shortfall) last))))
 
 -- bonus words of rows of at most so much each
 pub bonus-words : (most : ℕ) (cs : List ChargedRow) → ((c : ChargedRow) → List·Memᴰ c cs → c .figures .bonus ≤ most) → (i : ℕ) → getD (chargedWords cs) (8 * i + 5) 0 ≤ most
@@ -221,22 +226,26 @@ module _ (ledger file : List ℕ) (p : Passed ledger file) where
   pub credited : withCredits (pool v) (totalBonus v) (headerOf file .rowCount) (chargedWords (v .rows)) ≡ rowWords v (v .rows)
   credited = ap (λ n. withCredits (pool v) (totalBonus v) n (chargedWords (v .rows))) (sym count-is) ∙ credited-words v (v .rows) (λ c m. row-known c m .credit)
 
-  -- rows with known bounds and credits of no more than the most cents have no word above the most cents
-  words-at-most : (cs : List ChargedRow) → ((c : ChargedRow) → List·Memᴰ c cs → RowKnown c × (credit v c ≤ mostCents)) → AllAtMost mostCents (rowWords v cs)
-  unfolding rowWords
-  words-at-most [] each = none-at-most mostCents
-  words-at-most (c ∷ cs) each =
-      let k = each c (List·Memᴰ·head refl) in
-      let f = k .0 .figures in
-      let later = words-at-most cs (λ d m. each d (List·Memᴰ·tail m)) in
-      let last = cons-at-most mostCents (c .charge) _ (omega (arith, k .0 .charge)) (cons-at-most mostCents (credit v c) _ (k .1) later) in
-      let mid = cons-at-most mostCents (c .figures .economic) _ (omega (arith, f .economic)) (cons-at-most mostCents (c .figures .shortfall) _ (omega (arith, f .shortfall)) (cons-at-most mostCents (c .figures .bonus) _ (omega (arith, f .bonus)) last)) in
-      cons-at-most mostCents (c .figures .expected) _ (omega (arith, f .expected)) (cons-at-most mostCents (c .figures .actual) _ (omega (arith, f .actual)) (cons-at-most mostCents (c .figures .outage) _ (omega (arith, f .outage)) mid))
-
   -- where the pool is not too large, no word of the rows in the result is above the most cents
   pub each-word : pool v ≤ mostCents → (k : ℕ) → getD (rowWords v (v .rows)) k 0 ≤ mostCents
   unfolding credits
-  each-word small = words-at-most (v .rows) (λ c m. (row-known c m, omega (arith, member-le (credit v) m, credits-le v, small))) .each
+  each-word small k =
+      let below = row-words-below (mostCents + 1) v (v .rows)
+      (λ c m.
+      let known = row-known c m in
+      let f = known .figures in
+      record {
+        expected = omega (arith, f .expected);
+        actual = omega (arith, f .actual);
+        outage = omega (arith, f .outage);
+        economic = omega (arith, f .economic);
+        shortfall = omega (arith, f .shortfall);
+        bonus = omega (arith, f .bonus);
+        charge = omega (arith, known .charge);
+        credit = omega (arith, member-le (credit v) m, credits-le v, small);
+      })
+      in
+      omega (arith, below-at (rowWords v (v .rows)) k (omega arith) below)
 
   -- the result's words
   pub result-is : (ratio charged given rest bonus upper lower count : ℕ) (ws : List ℕ) → ratio ≡ printedRatio (v .ratio) → charged ≡ charges v → given ≡ credits v → rest ≡ carriedOn v → bonus ≡ totalBonus v

@@ -3,8 +3,7 @@
 ghost use mathlib.Core.Path.{_≡_};
 ghost use Prim.Native.Nat.{_+_, _*_, _≤_};
 ghost use lib.ListN.{length};
-ghost use Rattle.words.specs.Words.{bytesOf, bytesOfWords};
-ghost use Rattle.listing.specs.Lines.{placedAt};
+ghost use Rattle.words.specs.Words.{bytesOf, bytesOfWords, placedAt};
 
 // The words of a row: id, kind, committed, owned, metered, adjustment, planned, forced, maximum, minimum, online, LMP, first point, points.
 pub type Row = [u64; 14];

@@ -5,10 +5,11 @@ use mathlib.Core.List.{List, [], _∷_, _++_, append-assoc, append-nil}
 use native.Mathlib.Nat.{add-suc, suc-add, add-zero, zero-add, pow-succ', mul-assoc}
 use native.Mathlib.Numerals.{add-one}
 use native.Mathlib.Omega.{arith}
-use lib.ListN.{length, take, drop, getD, length-append, length-drop, take-append-drop, drop-of-length-le}
-use lib.Seq.{drop-drop, sets, sets-eq, length-take-le, take-at, drop-at, drop-cons}
-use Rattle.words.specs.Words.{number, bytesOf, numberAt, entries, bytesOfWords, written, writtenAt}
-use Rattle.words.proofs.Words.{length-bytesOf, length-bytesOfWords, length-written}
+use lib.ListN.{length, take, drop, getD, length-append, length-drop, drop-of-length-le}
+use lib.Seq.{drop-drop, sets, length-take-le, drop-cons}
+use Rattle.words.specs.Words.{number, bytesOf, numberAt, entries, bytesOfWords, placedAt, written, writtenAt}
+use Rattle.words.proofs.Words.{length-bytesOfWords, length-written}
+use Rattle.words.proofs.Placing.{place-none, place-more, stored}
 
 -- no bytes hold 0
 number-nil : (n : ℕ) → number n [] ≡ 0
@@ -64,16 +65,17 @@ pub one-word : (n v : ℕ) → bytesOfWords n (v ∷ []) ≡ bytesOf n v
 unfolding bytesOfWords
 one-word n v = append-nil (bytesOf n v)
 
+-- words written at a place are their bytes placed there
+pub written-placed : (at : ℕ) (ws b : List ℕ) → writtenAt at ws b ≡ placedAt at (bytesOfWords 8 ws) b
+unfolding writtenAt written placedAt
+written-placed at ws b =
+    let new = bytesOfWords 8 ws in
+    ap (λ rest. take at b ++ (new ++ rest)) (drop-drop (8 * length ws) at b ∙ ap (λ k. drop (at + k) b) (sym (length-bytesOfWords 8 ws)))
+    ∙ sym (append-assoc (take at b) new (drop (at + length new) b))
+
 -- bytes stored one after the other are a word that has been written
 pub stored-word : (b : List ℕ) (at v : ℕ) → at + 8 ≤ length b → sets b at (bytesOf 8 v) ≡ writtenAt at (v ∷ []) b
-unfolding writtenAt written
-stored-word b at v h =
-    let n = length-bytesOf 8 v in
-    sets-eq (bytesOf 8 v) b at (omega (arith, n))
-    ∙ ap (λ k. take at b ++ bytesOf 8 v ++ drop (at + k) b) n
-    ∙ append-assoc (take at b) (bytesOf 8 v) (drop (at + 8) b)
-    ∙ ap (λ rest. take at b ++ (bytesOf 8 v ++ rest)) (sym (drop-drop 8 at b))
-    ∙ ap (λ front. take at b ++ (front ++ drop 8 (drop at b))) (sym (one-word 8 v))
+stored-word b at v h = stored 8 at v b h ∙ ap (λ bs. placedAt at bs b) (sym (one-word 8 v)) ∙ sym (written-placed at (v ∷ []) b)
 
 -- words of two lists, one list after the other
 pub words-append : (n : ℕ) (ws vs : List ℕ) → bytesOfWords n (ws ++ vs) ≡ bytesOfWords n ws ++ bytesOfWords n vs
@@ -83,27 +85,20 @@ words-append n (w ∷ ws) vs = ap (λ rest. bytesOf n w ++ rest) (words-append n
 
 -- writing no words changes nothing
 pub write-none : (at : ℕ) (b : List ℕ) → writtenAt at [] b ≡ b
-unfolding writtenAt written bytesOfWords
-write-none at b = take-append-drop at b
+unfolding bytesOfWords
+write-none at b = written-placed at [] b ∙ place-none at b
 
 -- writing words behind words that have just been written
 pub write-more : (at : ℕ) (ws vs b : List ℕ) → at + 8 * length ws ≤ length b → writtenAt (at + 8 * length ws) vs (writtenAt at ws b) ≡ writtenAt at (ws ++ vs) b
-unfolding writtenAt written
 write-more at ws vs b h =
-    let front = take at b in
     let new = bytesOfWords 8 ws in
-    let rest = drop (8 * length ws) (drop at b) in
-    let more = bytesOfWords 8 vs in
-    let n : length (front ++ new) ≡ at + 8 * length ws = length-append front new ∙ ap₂ _+_ (length-take-le at b (omega arith)) (length-bytesOfWords 8 ws) in
-    let whole : front ++ (new ++ rest) ≡ (front ++ new) ++ rest = sym (append-assoc front new rest) in
-    let left : take (at + 8 * length ws) (front ++ (new ++ rest)) ≡ front ++ new = ap (take (at + 8 * length ws)) whole ∙ take-at (front ++ new) rest (at + 8 * length ws) n in
-    let right : drop (at + 8 * length ws) (front ++ (new ++ rest)) ≡ rest = ap (drop (at + 8 * length ws)) whole ∙ drop-at (front ++ new) rest (at + 8 * length ws) n in
-    let far : drop (8 * length vs) rest ≡ drop (8 * length (ws ++ vs)) (drop at b)
-    = let all : 8 * length ws + 8 * length vs ≡ 8 * length (ws ++ vs) = omega (arith, length-append ws vs) in
-    drop-drop (8 * length vs) (8 * length ws) (drop at b) ∙ ap (λ k. drop k (drop at b)) all in
-    ap₂ (λ l r. l ++ (more ++ drop (8 * length vs) r)) left right
-    ∙ append-assoc front new (more ++ drop (8 * length vs) rest)
-    ∙ ap (λ t. front ++ t) (sym (append-assoc new more (drop (8 * length vs) rest)) ∙ ap₂ _++_ (sym (words-append 8 ws vs)) far)
+    let n = length-bytesOfWords 8 ws in
+    let end : at + 8 * length ws ≡ at + length new = omega (arith, n) in
+    written-placed (at + 8 * length ws) vs (writtenAt at ws b)
+    ∙ ap₂ (λ k l. placedAt k (bytesOfWords 8 vs) l) end (written-placed at ws b)
+    ∙ place-more at new (bytesOfWords 8 vs) b (omega (arith, n))
+    ∙ ap (λ bs. placedAt at bs b) (sym (words-append 8 ws vs))
+    ∙ sym (written-placed at (ws ++ vs) b)
 
 -- writing the first of some words, and then the others
 pub write-next : (at v : ℕ) (ws b : List ℕ) → at + 8 ≤ length b → writtenAt (at + 8) ws (writtenAt at (v ∷ []) b) ≡ writtenAt at (v ∷ ws) b

@@ -4,6 +4,7 @@ pub mod Tests
 pub mod Lists
 pub mod Words
 pub mod Grounds
+pub mod Placing
 pub mod Access
 pub mod ReadBack
 pub mod Ints

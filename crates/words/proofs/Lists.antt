@@ -1,11 +1,11 @@
 -- The laws of sums, tests and order over a list.
-use Prim.Native.Nat.{ℕ, _+_, _*_, _≤_, _<_}
+use Prim.Native.Nat.{ℕ, zero, suc, _+_, _*_, _≤_, _<_}
 use mathlib.Core.Path.{_≡_, refl, sym, ap, _∙_}
 use mathlib.Core.Logic.{⊎-elim}
-use mathlib.Core.List.{List, [], _∷_, _++_, map, List·Memᴰ, List·Memᴰ·head, List·Memᴰ·tail}
+use mathlib.Core.List.{List, [], _∷_, _++_, map, List·Memᴰ, List·Memᴰ·head, List·Memᴰ·tail, List·Memᴰ·cases-cons, List·Memᴰ·not-nil}
 use mathlib.Core.Bool.{Bool, true, false, _||_, false≢true}
 use native.Mathlib.Omega.{arith}
-use lib.ListN.{length}
+use lib.ListN.{length, getD}
 use lib.Dec.{eqb}
 use borrow.Author.Tests.{eqb-true, eqb-false, lt-ltb}
 use Rattle.words.specs.Lists.{sum, any, risesAbove, rises}
@@ -138,3 +138,21 @@ rises-from-zero (x ∷ xs) z e =
 pub member-above : (last : ℕ) {x : ℕ} {xs : List ℕ} → List·Memᴰ x xs → risesAbove last xs ≡ true → last < x
 member-above last (List·Memᴰ·head {x = y} {xs = xs} q) e = omega (arith, q, rises-next last y xs e .0)
 member-above last (List·Memᴰ·tail {x = y} {xs = xs} m) e = let up = rises-next last y xs e in omega (arith, up .0, member-above y m (up .1))
+
+-- each of some words is below a bound
+abbrev pub EachBelow : ℕ → List ℕ → Type 0
+EachBelow n ws = (w : ℕ) → List·Memᴰ w ws → w < n
+
+-- of no words each is
+pub below-nil : {n : ℕ} → EachBelow n []
+below-nil w m = absurd (List·Memᴰ·not-nil m)
+
+-- so it is with one more such word in front
+pub below-cons : {n : ℕ} (v : ℕ) (ws : List ℕ) → v < n → EachBelow n ws → EachBelow n (v ∷ ws)
+below-cons v ws h each w m = ⊎-elim (λ e. omega (arith, e)) (each w) (List·Memᴰ·cases-cons m)
+
+-- then the word at any place is below it, and so is the 0 that stands for one past the end
+pub below-at : {n : ℕ} (ws : List ℕ) (k : ℕ) → 0 < n → EachBelow n ws → getD ws k 0 < n
+below-at [] k some each = omega arith
+below-at (w ∷ ws) zero some each = each w (List·Memᴰ·head refl)
+below-at (w ∷ ws) (suc k) some each = below-at ws k some (λ v m. each v (List·Memᴰ·tail m))

@@ -51,6 +51,10 @@ unfoldable pub bytesOfWords : ℕ → List ℕ → List ℕ
 bytesOfWords n [] = []
 bytesOfWords n (w ∷ ws) = bytesOf n w ++ bytesOfWords n ws
 
+-- a buffer with these bytes at a place, and the bytes before and beyond them as they were
+unfoldable pub placedAt : ℕ → List ℕ → List ℕ → List ℕ
+placedAt at bs b = take at b ++ bs ++ drop (at + length bs) b
+
 -- a buffer with these 64-bit words at its front, and the bytes beyond them as they were
 unfoldable pub written : List ℕ → List ℕ → List ℕ
 written ws b = bytesOfWords 8 ws ++ drop (8 * length ws) b

@@ -8,7 +8,7 @@ use native.Mathlib.Omega.{arith}
 use lib.ListN.{length, length-map}
 use lib.Dec.{eqb}
 use Rattle.words.specs.Lists.{sum}
-use Rattle.words.proofs.Lists.{member-le, sum-le, sum-map, sum-most}
+use Rattle.words.proofs.Lists.{member-le, sum-le, sum-map, sum-most, below-cons}
 use Rattle.reading.specs.Interval.{mostKilowatts, mostRows, Header, Row}
 use Rattle.reading.proofs.Bounds.{terms-in, HeaderIn, RowIn}
 use Rattle.assessment.specs.Assessment.{ratioOf, numerator, denominator, printedRatio, Account, ChargedRow, chargedRow, Assessed, assessed, charges, totalBonus, pool, credit, credits, carriedOn}
@@ -17,9 +17,10 @@ use Rattle.assessment.proofs.Limits.{limit-le}
 use Rattle.assessment.proofs.Shares.{credits-le}
 use Rattle.ledger.specs.Ledger.{mostCents, Ledger}
 use Rattle.settling.specs.Settling.{rowWords, resultWords, postedAll}
+use Rattle.settling.proofs.SettledLaws.{row-words-below}
 use Rattle.year.specs.Year.{GivenRow, sumOfPlant, largestOfPlant}
 use Rattle.ledger.proofs.Sound.{LedgerIn}
-use Rattle.year.proofs.LedgerBack.{Fits, fits-nil, fits-cons, AccountFits, LedgerFits}
+use Rattle.year.proofs.LedgerBack.{Fits, AccountFits, LedgerFits}
 use Rattle.year.proofs.Given.{givenOf, GivenFits}
 use Rattle.year.proofs.PostedSums.{posted-all}
 
@@ -148,15 +149,21 @@ module _ (l : Ledger) (h : Header) (rs : List Row) where
 
     -- the words of charged rows within those bounds fit 64 bits
     row-words-fit : (cs : List ChargedRow) → ((c : ChargedRow) → List·Memᴰ c cs → ChargedIn c) → Fits (rowWords made cs)
-    unfolding rowWords
-    row-words-fit [] each = fits-nil
-    row-words-fit (c ∷ cs) each =
-        let i = each c (List·Memᴰ·head refl) in
+    row-words-fit cs each =
+        row-words-below (2 ^ 64) made cs
+        (λ c m.
+        let i = each c m in
         let f = i .figures in
-        let later = row-words-fit cs (λ d m. each d (List·Memᴰ·tail m)) in
-        let last = fits-cons (c .charge) _ (omega (arith, i .charge)) (fits-cons (credit made c) _ (omega (arith, i .credit)) later) in
-        let mid = fits-cons (c .figures .economic) _ (omega (arith, f .economic)) (fits-cons (c .figures .shortfall) _ (omega (arith, f .shortfall)) (fits-cons (c .figures .bonus) _ (omega (arith, f .bonus)) last)) in
-        fits-cons (c .figures .expected) _ (omega (arith, f .expected)) (fits-cons (c .figures .actual) _ (omega (arith, f .actual)) (fits-cons (c .figures .outage) _ (omega (arith, f .outage)) mid))
+        record {
+          expected = omega (arith, f .expected);
+          actual = omega (arith, f .actual);
+          outage = omega (arith, f .outage);
+          economic = omega (arith, f .economic);
+          shortfall = omega (arith, f .shortfall);
+          bonus = omega (arith, f .bonus);
+          charge = omega (arith, i .charge);
+          credit = omega (arith, i .credit);
+        })
 
     -- the total bonus is at most twice the most kW for each charged row
     bonus-in : totalBonus made ≤ length (made .rows) * (2 * mostKilowatts)
@@ -180,9 +187,9 @@ module _ (l : Ledger) (h : Header) (rs : List Row) where
         let q = ratio-in header few in
         let many = mul-le-mul-right (2 * mostKilowatts) few in
         let each = row-words-fit (made .rows) charged-in in
-        let n = fits-cons (length (made .rows)) _ (omega (arith, rows-as-many, few)) each in
-        let ratio = fits-cons (made .ratio .numerator) _ (q .0) (fits-cons (made .ratio .denominator) _ (q .1) n) in
-        let bonus = fits-cons (totalBonus made) _ (omega (arith, rw rows-as-many at bonus-in, many)) ratio in
-        let on = fits-cons (carriedOn made) _ (unfold carriedOn in omega (arith, small)) bonus in
-        let cents = fits-cons (charges made) _ (omega (arith, pool-is, small)) (fits-cons (credits made) _ (omega (arith, credits-le made, small)) on) in
-        fits-cons (printedRatio (made .ratio)) _ (omega (arith, printed-le (made .ratio))) cents
+        let n = below-cons (length (made .rows)) _ (omega (arith, rows-as-many, few)) each in
+        let ratio = below-cons (made .ratio .numerator) _ (q .0) (below-cons (made .ratio .denominator) _ (q .1) n) in
+        let bonus = below-cons (totalBonus made) _ (omega (arith, rw rows-as-many at bonus-in, many)) ratio in
+        let on = below-cons {n = 2 ^ 64} (carriedOn made) _ (unfold carriedOn in omega (arith, small)) bonus in
+        let cents = below-cons (charges made) _ (omega (arith, pool-is, small)) (below-cons (credits made) _ (omega (arith, credits-le made, small)) on) in
+        below-cons (printedRatio (made .ratio)) _ (omega (arith, printed-le (made .ratio))) cents

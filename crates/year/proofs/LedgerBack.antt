@@ -1,8 +1,7 @@
 -- A ledger that has been written is read back, where its words fit 64 bits, and ground 6 does not refuse it, where it is in order.
 use Prim.Native.Nat.{ℕ, _+_, _*_, _^_, _<_, _≤_}
 use mathlib.Core.Path.{_≡_, refl, ap, _∙_}
-use mathlib.Core.Logic.{⊎-elim}
-use mathlib.Core.List.{List, [], _∷_, _++_, List·Memᴰ, List·Memᴰ·head, List·Memᴰ·tail, List·Memᴰ·cases-cons, List·Memᴰ·not-nil}
+use mathlib.Core.List.{List, [], _∷_, _++_, List·Memᴰ, List·Memᴰ·head, List·Memᴰ·tail}
 use mathlib.Core.Bool.{false}
 use native.Mathlib.Omega.{arith}
 use lib.ListN.{length, drop}
@@ -12,7 +11,7 @@ use Rattle.words.specs.Lists.{sum}
 use Rattle.words.specs.Words.{number, bytesOf, numberAt, word64, entries, bytesOfWords, written}
 use Rattle.words.specs.Grounds.{outside}
 use Rattle.words.proofs.Tests.{lies-inside}
-use Rattle.words.proofs.Lists.{none-pass}
+use Rattle.words.proofs.Lists.{none-pass, EachBelow, below-nil, below-cons}
 use Rattle.words.proofs.Words.{first-word, entries-back, length-written}
 use Rattle.reading.specs.Block.{mostIds, Terms}
 use Rattle.reading.specs.Interval.{intervalsPerDay, mostKilowatts}
@@ -22,15 +21,7 @@ use Rattle.ledger.proofs.Sound.{AccountIn, LedgerIn}
 
 -- words that fit 64 bits
 abbrev pub Fits : List ℕ → Type 0
-Fits ws = (w : ℕ) → List·Memᴰ w ws → w < 2 ^ 64
-
--- an empty list of words fits
-pub fits-nil : Fits []
-fits-nil w m = absurd (List·Memᴰ·not-nil m)
-
--- a word that fits, in front of words that fit, makes a list that fits
-pub fits-cons : (v : ℕ) (ws : List ℕ) → v < 2 ^ 64 → Fits ws → Fits (v ∷ ws)
-fits-cons v ws h fit w m = ⊎-elim (λ e. omega (arith, e)) (fit w) (List·Memᴰ·cases-cons m)
+Fits = EachBelow (2 ^ 64)
 
 -- an account whose four values fit 64 bits
 pub record AccountFits (a : Account) : Type 0 where
@@ -51,17 +42,17 @@ pub record LedgerFits (l : Ledger) : Type 0 where
 -- the words of accounts that fit are words that fit
 account-words-fit : (xs : List Account) → ((a : Account) → List·Memᴰ a xs → AccountFits a) → Fits (accountWords xs)
 unfolding accountWords
-account-words-fit [] fit = fits-nil
+account-words-fit [] fit = below-nil
 account-words-fit (a ∷ xs) fit =
     let f = fit a (List·Memᴰ·head refl) in
-    fits-cons _ _ (f .id) (fits-cons _ _ (f .largest) (fits-cons _ _ (f .charged) (fits-cons _ _ (f .credited) (account-words-fit xs (λ b m. fit b (List·Memᴰ·tail m))))))
+    below-cons _ _ (f .id) (below-cons _ _ (f .largest) (below-cons _ _ (f .charged) (below-cons _ _ (f .credited) (account-words-fit xs (λ b m. fit b (List·Memᴰ·tail m))))))
 
 -- the words of a ledger that fits are words that fit
 pub ledger-words-fit : (l : Ledger) → LedgerFits l → Fits (ledgerWords l)
 unfolding ledgerWords
 ledger-words-fit l f =
-    let later = fits-cons 8 _ (omega arith) (fits-cons 0 _ (omega arith) (account-words-fit (l .accounts) (f .accounts))) in
-    fits-cons 1 _ (omega arith) (fits-cons _ _ (f .netCone) (fits-cons _ _ (f .days) (fits-cons _ _ (f .earliest) (fits-cons _ _ (f .carried) (fits-cons _ _ (f .count) later)))))
+    let later = below-cons 8 _ (omega arith) (below-cons 0 _ (omega arith) (account-words-fit (l .accounts) (f .accounts))) in
+    below-cons 1 _ (omega arith) (below-cons _ _ (f .netCone) (below-cons _ _ (f .days) (below-cons _ _ (f .earliest) (below-cons _ _ (f .carried) (below-cons _ _ (f .count) later)))))
 
 -- the accounts of a written ledger
 account-back : (rest : List ℕ) (a : Account) (xs : List Account) → AccountFits a → accountAt (bytesOfWords 8 (accountWords (a ∷ xs)) ++ rest) ≡ a

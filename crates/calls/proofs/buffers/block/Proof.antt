@@ -1,8 +1,8 @@
 -- `calls::buffers::block` meets its contract. Its words, written at the front, are the listing's block.
 use borrow.Author.Needs.{needs}
+use Rattle.words.specs.Words.{placedAt}
 use Rattle.ledger.specs.Figures.{listingBlock, blockWith}
 use Rattle.ledger.proofs.Computing.{computing}
-use Rattle.listing.specs.Lines.{placedAt}
 use Rattle.calls.proofs.buffers.block.Statement.{statement}
 use Rattle.calls.proofs.buffers.block.Tie as tie
 

@@ -1,10 +1,9 @@
 -- `calls::buffers::file` meets its contract. Its words, written one table behind the other, are the listing's file.
 use mathlib.Core.Path.{ap, _∙_}
 use borrow.Author.Needs.{needs}
-use Rattle.words.specs.Words.{bytesOfWords}
+use Rattle.words.specs.Words.{bytesOfWords, placedAt}
 use Rattle.settling.specs.Listing.{fileWith, row11, row12, row13, row14, listingPoints, listingFile}
 use Rattle.settling.proofs.Computing.{computing}
-use Rattle.listing.specs.Lines.{placedAt}
 use Rattle.calls.proofs.buffers.file.Statement.{statement}
 use Rattle.calls.proofs.buffers.file.Tie as tie
 

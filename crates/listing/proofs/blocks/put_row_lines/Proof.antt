@@ -3,9 +3,9 @@ use Prim.Native.Nat.{_+_, _-_, _*_, _≤_}
 use mathlib.Core.Path.{_≡_, refl, sym, ap, _∙_}
 use lib.ListN.{length, drop}
 use borrow.Rule.Slice.PartAt.{part-to-end}
+use Rattle.words.specs.Words.{placedAt}
 use Rattle.reading.specs.Interval.{headerOf, rowsOf}
 use Rattle.settling.proofs.SettlingTests.{row-id}
-use Rattle.listing.specs.Lines.{placedAt}
 use Rattle.listing.specs.Npalist.{rowLines}
 use Rattle.listing.proofs.BlockLaws.{linesLeft, lines-start, row-turn, row-end}
 use native.Mathlib.Omega.{arith}

@@ -1,7 +1,7 @@
 -- `listing::lines::put_byte` meets its contract. A byte stored is a byte placed.
 use mathlib.Core.Path.{refl}
 use borrow.Author.Needs.{needs}
-use Rattle.listing.proofs.Placing.{place-byte}
+use Rattle.words.proofs.Placing.{place-byte}
 use Rattle.listing.proofs.lines.put_byte.Statement.{statement}
 use Rattle.listing.proofs.lines.put_byte.Tie as tie
 

@@ -2,7 +2,7 @@
 use native.Mathlib.Omega.{arith}
 use borrow.Author.Needs.{needs}
 use Rattle.listing.specs.Lines.{text, cutLine}
-use Rattle.listing.proofs.Placing.{then-place}
+use Rattle.words.proofs.Placing.{then-place}
 use Rattle.listing.proofs.lines.put_cut.Statement.{statement}
 use Rattle.listing.proofs.lines.put_cut.Tie as tie
 

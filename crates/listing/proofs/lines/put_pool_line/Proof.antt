@@ -4,7 +4,7 @@ use borrow.Author.Needs.{needs}
 use Rattle.words.specs.Words.{entries, wordsIn}
 use Rattle.listing.specs.Lines.{text, line}
 use Rattle.listing.specs.Npalist.{poolLine}
-use Rattle.listing.proofs.Placing.{three-placed}
+use Rattle.words.proofs.Placing.{three-placed}
 use Rattle.listing.proofs.lines.put_pool_line.Statement.{statement}
 use Rattle.listing.proofs.lines.put_pool_line.Tie as tie
 

@@ -2,7 +2,7 @@
 use native.Mathlib.Omega.{arith}
 use borrow.Author.Needs.{needs}
 use Rattle.listing.specs.Lines.{text, line, refusedLine}
-use Rattle.listing.proofs.Placing.{three-placed}
+use Rattle.words.proofs.Placing.{three-placed}
 use Rattle.listing.proofs.lines.put_refused.Statement.{statement}
 use Rattle.listing.proofs.lines.put_refused.Tie as tie
 

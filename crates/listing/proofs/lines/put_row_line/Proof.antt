@@ -3,7 +3,7 @@ use native.Mathlib.Omega.{arith}
 use borrow.Author.Needs.{needs}
 use Rattle.words.specs.Words.{entries, wordsIn}
 use Rattle.listing.specs.Lines.{line}
-use Rattle.listing.proofs.Placing.{three-placed}
+use Rattle.words.proofs.Placing.{three-placed}
 use Rattle.listing.proofs.lines.put_row_line.Statement.{statement}
 use Rattle.listing.proofs.lines.put_row_line.Tie as tie
 

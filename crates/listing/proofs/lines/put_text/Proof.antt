@@ -4,8 +4,8 @@ use mathlib.Core.Path.{_≡_, refl}
 use native.Mathlib.Nat.{add-zero}
 use native.Mathlib.Omega.{arith}
 use lib.ListN.{length, drop, length-set}
-use Rattle.listing.specs.Lines.{placedAt}
-use Rattle.listing.proofs.Placing.{copy-turn, copy-all}
+use Rattle.words.specs.Words.{placedAt}
+use Rattle.words.proofs.Placing.{copy-turn, copy-all}
 use Rattle.listing.proofs.lines.put_text.Statement.{statement}
 use Rattle.listing.proofs.lines.put_text.Tie as tie
 

@@ -5,8 +5,8 @@ use native.Mathlib.Nat.{sub-zero}
 use native.Mathlib.Omega.{arith}
 use borrow.Author.Needs.{needs}
 use lib.ListN.{length, drop}
-use Rattle.words.specs.Words.{wordsIn}
-use Rattle.listing.specs.Lines.{line, placedAt}
+use Rattle.words.specs.Words.{wordsIn, placedAt}
+use Rattle.listing.specs.Lines.{line}
 use Rattle.listing.proofs.LineLaws.{words-turn, words-end}
 use Rattle.listing.proofs.lines.put_words.Statement.{statement}
 use Rattle.listing.proofs.lines.put_words.Tie as tie

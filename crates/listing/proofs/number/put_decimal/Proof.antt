@@ -4,7 +4,8 @@ use mathlib.Core.Path.{_≡_, refl}
 use native.Mathlib.Omega.{arith}
 use borrow.Author.Needs.{needs}
 use lib.ListN.{length, length-set}
-use Rattle.listing.specs.Lines.{decimal, placedAt}
+use Rattle.words.specs.Words.{placedAt}
+use Rattle.listing.specs.Lines.{decimal}
 use Rattle.listing.proofs.Digits.{decimal-longer, decimal-most, digit-turn, digit-first}
 use Rattle.listing.proofs.number.put_decimal.Statement.{statement}
 use Rattle.listing.proofs.number.put_decimal.Tie as tie

@@ -2,8 +2,9 @@
 use mathlib.Core.Path.{sym, ap, _∙_}
 use mathlib.Core.List.{[]}
 use lib.ListN.{length}
-use Rattle.listing.specs.Lines.{cutLine, placedAt}
-use Rattle.listing.proofs.Placing.{place-none}
+use Rattle.words.specs.Words.{placedAt}
+use Rattle.listing.specs.Lines.{cutLine}
+use Rattle.words.proofs.Placing.{place-none}
 use Rattle.listing.proofs.StreamLaws.{at-first, at-later}
 use native.Mathlib.Omega.{arith}
 use borrow.Author.Needs.{needs}

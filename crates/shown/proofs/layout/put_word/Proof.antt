@@ -4,7 +4,7 @@ use native.Mathlib.Omega.{arith}
 use borrow.Author.Needs.{needs}
 use lib.ListN.{length-set}
 use Rattle.words.specs.Words.{bytesOf}
-use Rattle.shown.proofs.WordLaws.{stored}
+use Rattle.words.proofs.Placing.{stored}
 use Rattle.shown.proofs.layout.put_word.Statement.{statement}
 use Rattle.shown.proofs.layout.put_word.Tie as tie
 
@@ -46,7 +46,7 @@ same-length c = search needs
 
 returns : tie.Need-returns
 unfolding bytesOf
-returns c = rw (← stored (c .args .at) (c .args .w) (c .args .out .now) (omega arith)) (simp towards-suc)
+returns c = rw (← stored 4 (c .args .at) (c .args .w) (c .args .out .now) (omega arith)) (simp towards-suc)
 
 pub put-word-spec : {M : Type 1} → statement M
 put-word-spec =

@@ -5,9 +5,8 @@ use native.Mathlib.Nat.{add-zero}
 use native.Mathlib.Omega.{arith}
 use borrow.Author.Needs.{needs}
 use lib.ListN.{length, drop}
-use Rattle.words.specs.Words.{bytesOfWords}
-use Rattle.listing.specs.Lines.{placedAt}
-use Rattle.shown.proofs.WordLaws.{words-turn, words-all}
+use Rattle.words.specs.Words.{bytesOfWords, placedAt}
+use Rattle.words.proofs.Placing.{words-turn, words-all}
 use Rattle.shown.proofs.layout.put_words.Statement.{statement}
 use Rattle.shown.proofs.layout.put_words.Tie as tie
 
@@ -45,7 +44,7 @@ loop-less c = search needs
 loop-again : tie.Need-loop-again Inv-loop μ-loop
 loop-again c = (
   omega arith,
-  words-turn _ _ _ _ _ _ (c .before .before .before .before .before .before .loop .inv .1) (omega arith) (omega arith) (c .before .before .put-word .ensures),
+  words-turn 4 _ _ _ _ _ _ (c .before .before .before .before .before .before .loop .inv .1) (omega arith) (omega arith) (c .before .before .put-word .ensures),
   omega arith,
 )
 
@@ -53,7 +52,7 @@ same-length : tie.Need-same-length Inv-loop μ-loop
 same-length c = search needs
 
 returns : tie.Need-returns Inv-loop μ-loop
-returns c = (words-all _ _ _ _ _ (c .before .loop .inv .1) (omega arith))
+returns c = (words-all 4 _ _ _ _ _ (c .before .loop .inv .1) (omega arith))
 
 pub put-words-spec : {M : Type 1} → statement M
 put-words-spec =

@@ -1,13 +1,14 @@
--- The laws of bytes placed in a buffer: nothing placed, one byte stored, bytes placed behind others, lengths.
-use Prim.Native.Nat.{ℕ, suc, _+_, _≤_, _<_}
+-- The laws of bytes placed in a buffer: none, one, some behind others, a text, and words of any width.
+use Prim.Native.Nat.{ℕ, suc, _+_, _*_, _≤_, _<_}
 use mathlib.Core.Path.{_≡_, sym, ap, ap₂, _∙_}
 use mathlib.Core.List.{List, [], _∷_, _++_, append-assoc, append-nil}
 use native.Mathlib.Numerals.{add-one}
 use native.Mathlib.Nat.{add-zero}
 use native.Mathlib.Omega.{arith}
 use lib.ListN.{length, take, drop, getD, set, length-append, take-append-drop, drop-of-length-le}
-use lib.Seq.{length-take-le, take-at, drop-at, drop-drop, drop-cons, set-split, take-set-le, append-snoc}
-use Rattle.listing.specs.Lines.{placedAt}
+use lib.Seq.{sets, sets-eq, length-take-le, take-at, drop-at, drop-drop, drop-cons, set-split, take-set-le, append-snoc}
+use Rattle.words.specs.Words.{bytesOf, bytesOfWords, placedAt}
+use Rattle.words.proofs.Words.{length-bytesOf}
 
 -- no bytes placed change nothing
 pub place-none : (at : ℕ) (b : List ℕ) → placedAt at [] b ≡ b
@@ -78,3 +79,27 @@ pub three-placed : (at : ℕ) (xs ys zs b x y z : List ℕ) (k m n : ℕ) → at
 three-placed at xs ys zs b x y z k m n room kept e p f q g r =
     let later = then-place k ys zs x y z m n (omega arith) f q g r in
     then-place at xs (ys ++ zs) b x z k n (omega arith) e p (later .0) (later .1)
+
+-- the bytes of a number stored one after the other are placed
+pub stored : (n at w : ℕ) (b : List ℕ) → at + n ≤ length b → sets b at (bytesOf n w) ≡ placedAt at (bytesOf n w) b
+unfolding placedAt
+stored n at w b h = sets-eq (bytesOf n w) b at (omega (arith, length-bytesOf n w))
+
+-- one turn of writing words of n bytes: those from the next on are left
+pub words-turn : (n at i : ℕ) (ws b x goal : List ℕ) → placedAt (at + n * i) (bytesOfWords n (drop i ws)) b ≡ goal → i < length ws → at + n * i + n ≤ length b
+    → x ≡ placedAt (at + n * i) (bytesOf n (getD ws i 0)) b → placedAt (at + n * (i + 1)) (bytesOfWords n (drop (i + 1) ws)) x ≡ goal
+unfolding bytesOfWords
+words-turn n at i ws b x goal left more room put =
+    let word = bytesOf n (getD ws i 0) in
+    let long = length-bytesOf n (getD ws i 0) in
+    let further : n * suc i ≡ n * i + n = omega arith in
+    let next : at + n * suc i ≡ at + n * i + length word = omega (arith, long, further) in
+    rw add-one
+    (place-rest (at + n * i) word (bytesOfWords n (drop (suc i) ws)) b x goal (at + n * suc i) (omega (arith, long)) put next
+    (ap (λ l. placedAt (at + n * i) (bytesOfWords n l) b) (sym (drop-cons ws i 0 more)) ∙ left))
+
+-- where all words are written, nothing is left
+pub words-all : (n at i : ℕ) (ws b goal : List ℕ) → placedAt (at + n * i) (bytesOfWords n (drop i ws)) b ≡ goal → length ws ≤ i → b ≡ goal
+unfolding bytesOfWords
+words-all n at i ws b goal left h =
+    sym (place-none (at + n * i) b) ∙ ap (λ l. placedAt (at + n * i) (bytesOfWords n l) b) (sym (drop-of-length-le ws h)) ∙ left
