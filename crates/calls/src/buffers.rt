@@ -1,50 +1,15 @@
 // The buffers of document 01's listing: the opening block, and the file at an interval.
 
-use shown::layout::Row;
+use shown::document::ROW_11;
+use shown::document::ROW_12;
+use shown::document::ROW_13;
+use shown::document::ROW_14;
 use shown::layout::put_words;
 ghost use mathlib.Core.Path.{_≡_};
 ghost use Rattle.ledger.specs.Figures.{listingBlock};
 ghost use Rattle.settling.specs.Listing.{listingFile};
 
 const BLOCK: [u64; 9] = [1, 30000, 365, 4, 20, 11, 12, 13, 14];
-
-const ROW_11: Row = [
-    11,
-    0,
-    100000,
-    110000,
-    60000,
-    0,
-    10000,
-    0,
-    110000,
-    20000,
-    1,
-    3000,
-    0,
-    2,
-];
-
-const ROW_12: Row = [
-    12,
-    0,
-    50000,
-    60000,
-    20000,
-    5000,
-    0,
-    35000,
-    25000,
-    10000,
-    1,
-    6001,
-    2,
-    2,
-];
-
-const ROW_13: Row = [13, 4, 0, 40000, 35000, 0, 0, 0, 40000, 0, 1, 3000, 4, 2];
-
-const ROW_14: Row = [14, 1, 5000, 0, 15001, 0, 0, 0, 0, 0, 0, 0, 0, 0];
 
 const POINTS: [u64; 12] = [
     1000,

@@ -7,7 +7,7 @@ use native.Mathlib.Omega.{arith}
 use borrow.Author.Tests.{lt-ltb, le-ltb, ltb-true, ltb-false}
 use borrow.Rule.Slice.PartAt.{part-to-end}
 use borrow.Rule.Slice.PartMut.{putMid}
-use lib.ListN.{length, take, drop, getD, length-map, length-drop, drop-of-length-le, List·getD-append}
+use lib.ListN.{length, take, drop, getD, length-drop, drop-of-length-le, List·getD-append}
 use lib.Seq.{drop-drop, getD-drop}
 use lib.Dec.{ltb, eqb}
 use Rattle.words.specs.Lists.{any}
@@ -16,9 +16,9 @@ use Rattle.words.proofs.Tests.{first-holds, second-holds, not-first, not-second
 use Rattle.words.proofs.ReadBack.{beyond-kept}
 use Rattle.words.proofs.Access.{write-more, write-none, written-at-zero, length-writtenAt}
 use Rattle.reading.specs.Interval.{rowBytes, Row, headerOf, rowAt, rowOf, rowsOf}
-use Rattle.reading.proofs.Bounds.{terms-in, length-rows}
+use Rattle.reading.proofs.Bounds.{terms-in}
 use Rattle.reading.proofs.Walk.{rowPart, rowsLeft, rows-start, rows-turn, rows-end}
-use Rattle.assessment.specs.Assessment.{Account, raised, ChargedRow, chargedRow, Assessed, assessed, ratioOf, credit}
+use Rattle.assessment.specs.Assessment.{Account, raised, ChargedRow, chargedRow, Assessed, credit}
 use Rattle.assessment.proofs.Limits.{mostLimit, limit-le}
 use Rattle.assessment.proofs.SumLaws.{partFrom}
 use Rattle.ledger.specs.Ledger.{ledgerHeaderBytes, accountBytes, mostCents, mostCredited, accountAt, accountCount, ledgerOf, accountWords, accountOutside}
@@ -28,7 +28,7 @@ use Rattle.ledger.proofs.Accounts.{accountPart, accountsLeft, accounts-start, a
 use Rattle.settling.proofs.Beside.{unmatched}
 use Rattle.settling.proofs.Meeting.{accountIds, rowIds, chargedIds, postedBeside, posted-met, posted-passed, posted-rest, posted-own, accounts-rise, all-meet}
 use Rattle.ledger.proofs.Sound.{account-in}
-use Rattle.settling.proofs.SettledLaws.{length-row-words}
+use Rattle.settling.proofs.SettledLaws.{length-row-words, chargedOf, rows-are, count-is}
 
 -- whether row i of a file is there and has an id
 module _ (f : List ℕ) (i n first id : ℕ) (count : n ≡ headerOf f .rowCount) where
@@ -127,7 +127,7 @@ module _ (b f : List ℕ) where
 
   -- a row, charged
   abbrev pub charged : Row → ChargedRow
-  charged = chargedRow (ledgerOf b .terms) (ledgerOf b .accounts) (ratioOf (headerOf f) (rowsOf f))
+  charged = chargedOf b f
 
   -- the charged rows from i on, and charged row i
   abbrev pub chargedLeft : ℕ → List ChargedRow
@@ -136,11 +136,6 @@ module _ (b f : List ℕ) where
   -- row i of the file, charged
   abbrev pub chargedAt : ℕ → ChargedRow
   chargedAt i = charged (rowOf f (rowPart f i))
-
-  -- what a row has in the interval, and what of it the code reads
-  rows-are : v .rows ≡ map charged (rowsOf f)
-  unfolding assessedFile assessed
-  rows-are = refl
 
   -- below the number of rows, the charged rows from i on are charged row i and those from i + 1 on
   row-left : (i : ℕ) → i < headerOf f .rowCount → chargedLeft i ≡ chargedAt i ∷ chargedLeft (i + 1)
@@ -158,7 +153,7 @@ module _ (b f : List ℕ) where
 
   -- charging keeps the ids
   charged-ids : chargedIds (v .rows) ≡ rowIds (rowsOf f)
-  charged-ids = ap chargedIds rows-are ∙ ids (rowsOf f)
+  charged-ids = ap chargedIds (rows-are b f) ∙ ids (rowsOf f)
     where
       ids : (rs : List Row) → chargedIds (map charged rs) ≡ rowIds rs
       ids [] = refl
@@ -169,14 +164,13 @@ module _ (b f : List ℕ) where
     -- scratch has eight words for each row of the file
     pub rows-long : length rows ≡ 8 * headerOf f .rowCount
     rows-long =
-        let n = ap length rows-are ∙ length-map (rowsOf f) charged ∙ length-rows f in
-        omega (arith, ap length filled, length-row-words v (v .rows), n)
+        omega (arith, ap length filled, length-row-words v (v .rows), count-is b f)
 
     -- word k of row i in scratch is word k of charged row i in the result
     word-at : (i k : ℕ) → k < 8 → i < headerOf f .rowCount → getD rows (8 * i + k) 0 ≡ getD (rowWords v (chargedAt i ∷ [])) k 0
     unfolding rowsOf
     word-at i k low h =
-        ap (λ ws. getD ws (8 * i + k) 0) (filled ∙ ap (rowWords v) rows-are)
+        ap (λ ws. getD ws (8 * i + k) 0) (filled ∙ ap (rowWords v) (rows-are b f))
         ∙ row-word v charged rowBytes (rowOf f) k low (headerOf f .rowCount) (drop (headerOf f .rowsOffset) f) i h
         ∙ ap (λ d. getD (rowWords v (charged (rowOf f d) ∷ [])) k 0) (drop-drop (rowBytes * i) (headerOf f .rowsOffset) f)
 
@@ -202,7 +196,7 @@ module _ (b f : List ℕ) where
   left-start = record {
     long = refl;
     later = refl;
-    left = ap₂ (λ accounts rows. writtenAt 64 (accountWords (postedBeside v accounts rows)) b) (sym (accounts-start b)) (ap (map charged) (sym (rows-start f)) ∙ sym rows-are);
+    left = ap₂ (λ accounts rows. writtenAt 64 (accountWords (postedBeside v accounts rows)) b) (sym (accounts-start b)) (ap (map charged) (sym (rows-start f)) ∙ sym (rows-are b f));
   }
 
   -- what an account of the ledger has at most

@@ -122,29 +122,31 @@ account-largest t i (a ∷ accounts) e =
     by true here later = here
     by false here later = later
 
+-- the interval that a file makes of a ledger
+module _ (ledger file : List ℕ) where
+  -- a row, charged to its account in the ledger
+  abbrev pub chargedOf : Row → ChargedRow
+  chargedOf = chargedRow (ledgerOf ledger .terms) (ledgerOf ledger .accounts) (ratioOf (headerOf file) (rowsOf file))
+
+  -- its rows are the file's, each charged to its account
+  pub rows-are : assessedFile ledger file .rows ≡ map chargedOf (rowsOf file)
+  unfolding assessedFile assessed
+  rows-are = refl
+
+  -- it has as many rows as the header says
+  pub count-is : length (assessedFile ledger file .rows) ≡ headerOf file .rowCount
+  count-is = ap length rows-are ∙ length-map (rowsOf file) chargedOf ∙ length-rows file
+
 -- what is known of the interval that a file makes of a ledger, where grounds 6 to 14 do not apply
 module _ (ledger file : List ℕ) (p : Passed ledger file) where
   -- the interval that the file makes of the ledger
   abbrev v : Assessed
   v = assessedFile ledger file
 
-  -- a row, charged to its account in the ledger
-  abbrev own : Row → ChargedRow
-  own = chargedRow (ledgerOf ledger .terms) (ledgerOf ledger .accounts) (ratioOf (headerOf file) (rowsOf file))
-
-  -- the interval's rows are the file's, each charged to its account
-  pub rows-are : v .rows ≡ map own (rowsOf file)
-  unfolding assessedFile assessed
-  rows-are = refl
-
   -- the interval's ratio is that of the numerator and the denominator of the file
   pub ratio-is : v .ratio ≡ record { numerator = numerator (headerOf file) (rowsOf file); denominator = denominator (rowsOf file) }
   unfolding assessedFile assessed ratioOf
   ratio-is = refl
-
-  -- the interval has as many rows as the header says
-  pub count-is : length (v .rows) ≡ headerOf file .rowCount
-  count-is = ap length rows-are ∙ length-map (rowsOf file) own ∙ length-rows file
 
   -- each row of the file is within the bounds of ground 13
   row-is : (r : Row) → List·Memᴰ r (rowsOf file) → RowIn r
@@ -162,7 +164,7 @@ module _ (ledger file : List ℕ) (p : Passed ledger file) where
     pub credit : credit v c ≡ share (pool v) (totalBonus v) (c .figures .bonus)
 
   -- a row's charge is no more than the largest limit
-  own-charge : (r : Row) → RowIn r → own r .charge ≤ mostLimit
+  own-charge : (r : Row) → RowIn r → chargedOf ledger file r .charge ≤ mostLimit
   unfolding chargedRow
   own-charge r i =
       let t = ledgerOf ledger .terms in
@@ -172,7 +174,7 @@ module _ (ledger file : List ℕ) (p : Passed ledger file) where
       omega (arith, if-le r (charge t (raised r a) short), charge-le t r a short, limit-le t (max (a .largest) (r .committed)) (terms-in t (p .terms)) kw)
 
   -- a row's figures are within their bounds
-  own-figures : (r : Row) → RowIn r → FiguresIn (own r .figures)
+  own-figures : (r : Row) → RowIn r → FiguresIn (chargedOf ledger file r .figures)
   unfolding chargedRow
   own-figures r i = figures-in (ratioOf (headerOf file) (rowsOf file)) r i
 
@@ -180,7 +182,7 @@ module _ (ledger file : List ℕ) (p : Passed ledger file) where
   row-known : (c : ChargedRow) → List·Memᴰ c (v .rows) → RowKnown c
   unfolding assessedFile assessed
   row-known c m =
-      let (r, at, e) = Memᴰ·of-map own (rowsOf file) m in
+      let (r, at, e) = Memᴰ·of-map (chargedOf ledger file) (rowsOf file) m in
       subst RowKnown e (record {
         figures = own-figures r (row-is r at);
         charge = own-charge r (row-is r at);
@@ -190,24 +192,24 @@ module _ (ledger file : List ℕ) (p : Passed ledger file) where
   -- the sums that the code takes, and that none of them wraps
   pub charges-sum : sumOfWord 6 (headerOf file .rowCount) (chargedWords (v .rows)) ≡ charges v
   unfolding charges
-  charges-sum = ap (λ n. sumOfWord 6 n (chargedWords (v .rows))) (sym count-is) ∙ sum-of-charges (v .rows)
+  charges-sum = ap (λ n. sumOfWord 6 n (chargedWords (v .rows))) (sym (count-is ledger file)) ∙ sum-of-charges (v .rows)
 
   -- word 5, summed over the charged rows in scratch, is the total bonus
   pub bonus-sum : sumOfWord 5 (headerOf file .rowCount) (chargedWords (v .rows)) ≡ totalBonus v
   unfolding totalBonus
-  bonus-sum = ap (λ n. sumOfWord 5 n (chargedWords (v .rows))) (sym count-is) ∙ sum-of-bonus (v .rows)
+  bonus-sum = ap (λ n. sumOfWord 5 n (chargedWords (v .rows))) (sym (count-is ledger file)) ∙ sum-of-bonus (v .rows)
 
   -- word 7, summed over the rows of the result, is the sum of the credits
   pub credits-sum : sumOfWord 7 (headerOf file .rowCount) (rowWords v (v .rows)) ≡ credits v
   unfolding credits
-  credits-sum = ap (λ n. sumOfWord 7 n (rowWords v (v .rows))) (sym count-is) ∙ sum-of-credits v (v .rows)
+  credits-sum = ap (λ n. sumOfWord 7 n (rowWords v (v .rows))) (sym (count-is ledger file)) ∙ sum-of-credits v (v .rows)
 
   -- the charges come to no more than the largest limit for each of the most rows
   pub charges-fit : charges v ≤ mostRows * mostLimit
   unfolding charges
   charges-fit =
       let all = sum-most (λ c. c .charge) mostLimit (v .rows) (λ c m. row-known c m .charge) in
-      let few : length (v .rows) ≤ mostRows = omega (arith, count-is, p .rows-few) in
+      let few : length (v .rows) ≤ mostRows = omega (arith, count-is ledger file, p .rows-few) in
       omega (arith, all, mul-le-mul-right mostLimit few)
 
   -- the total bonus is no more than twice the most kW for each of the most rows
@@ -215,7 +217,7 @@ module _ (ledger file : List ℕ) (p : Passed ledger file) where
   unfolding totalBonus
   bonus-fits =
       let all = sum-most (λ c. c .figures .bonus) (2 * mostKilowatts) (v .rows) (λ c m. row-known c m .figures .bonus) in
-      let few : length (v .rows) ≤ mostRows = omega (arith, count-is, p .rows-few) in
+      let few : length (v .rows) ≤ mostRows = omega (arith, count-is ledger file, p .rows-few) in
       omega (arith, all, mul-le-mul-right (2 * mostKilowatts) few)
 
   -- the bonus word of each row is at most 8000000
@@ -224,7 +226,7 @@ module _ (ledger file : List ℕ) (p : Passed ledger file) where
 
   -- the rows' words with their credits
   pub credited : withCredits (pool v) (totalBonus v) (headerOf file .rowCount) (chargedWords (v .rows)) ≡ rowWords v (v .rows)
-  credited = ap (λ n. withCredits (pool v) (totalBonus v) n (chargedWords (v .rows))) (sym count-is) ∙ credited-words v (v .rows) (λ c m. row-known c m .credit)
+  credited = ap (λ n. withCredits (pool v) (totalBonus v) n (chargedWords (v .rows))) (sym (count-is ledger file)) ∙ credited-words v (v .rows) (λ c m. row-known c m .credit)
 
   -- where the pool is not too large, no word of the rows in the result is above the most cents
   pub each-word : pool v ≤ mostCents → (k : ℕ) → getD (rowWords v (v .rows)) k 0 ≤ mostCents
@@ -253,7 +255,7 @@ module _ (ledger file : List ℕ) (p : Passed ledger file) where
       → ratio ∷ charged ∷ given ∷ rest ∷ bonus ∷ upper ∷ lower ∷ count ∷ ws ≡ resultWords v
   unfolding resultWords
   result-is ratio charged given rest bonus upper lower count ws a b c d e f g h w =
-      λ k. a k ∷ b k ∷ c k ∷ d k ∷ e k ∷ (f ∙ ap (λ q. q .numerator) (sym ratio-is)) k ∷ (g ∙ ap (λ q. q .denominator) (sym ratio-is)) k ∷ (h ∙ sym count-is) k ∷ w k
+      λ k. a k ∷ b k ∷ c k ∷ d k ∷ e k ∷ (f ∙ ap (λ q. q .numerator) (sym ratio-is)) k ∷ (g ∙ ap (λ q. q .denominator) (sym ratio-is)) k ∷ (h ∙ sym (count-is ledger file)) k ∷ w k
 
   -- the ledger's words
   pub ledger-is : (cone days next rest count : ℕ) → cone ≡ ledgerOf ledger .terms .netCone → days ≡ ledgerOf ledger .terms .days → next ≡ headerOf file .interval + 1
@@ -270,7 +272,7 @@ module _ (ledger file : List ℕ) (p : Passed ledger file) where
     module _ (words : ws ≡ chargedWords (v .rows)) where
       -- the charged rows in scratch have eight words each
       charged-length : length ws ≡ 8 * n
-      charged-length = ap length words ∙ length-charged (v .rows) ∙ ap (λ k. 8 * k) (count-is ∙ sym rows)
+      charged-length = ap length words ∙ length-charged (v .rows) ∙ ap (λ k. 8 * k) (count-is ledger file ∙ sym rows)
 
       -- word 6, summed over scratch, is the sum of the charges
       pub charges-are : sumOfWord 6 n ws ≡ charges v
@@ -299,7 +301,7 @@ module _ (ledger file : List ℕ) (p : Passed ledger file) where
     module _ (words : ws ≡ rowWords v (v .rows)) where
       -- the credited rows in scratch have eight words each
       pub credited-length : length ws ≡ 8 * n
-      credited-length = ap length words ∙ length-row-words v (v .rows) ∙ ap (λ k. 8 * k) (count-is ∙ sym rows)
+      credited-length = ap length words ∙ length-row-words v (v .rows) ∙ ap (λ k. 8 * k) (count-is ledger file ∙ sym rows)
 
       -- word 7, summed over scratch, is the sum of the credits
       pub credits-are : sumOfWord 7 n ws ≡ credits v

@@ -14,6 +14,10 @@ use assessment::rules::share;
 use assessment::sums::Sides;
 use assessment::units::Cents;
 use assessment::units::Kilowatts;
+use shown::document::ROW_11;
+use shown::document::ROW_12;
+use shown::document::ROW_13;
+use shown::document::ROW_14;
 use shown::layout::Header;
 use shown::layout::Row;
 use shown::layout::put_words;
@@ -26,45 +30,7 @@ const BELOW_ZERO: [u64; 4] = [0x1_0000_0000 - 300, 0, 0x1_0000_0000 - 293, 10];
 
 const PRD: [u64; 4] = [500, 0, 2000, 3000];
 
-// Rows of the listing.
-const ROW_11: Row = [
-    11,
-    0,
-    100000,
-    110000,
-    60000,
-    0,
-    10000,
-    0,
-    110000,
-    20000,
-    1,
-    3000,
-    0,
-    2,
-];
-
-const ROW_12: Row = [
-    12,
-    0,
-    50000,
-    60000,
-    20000,
-    5000,
-    0,
-    35000,
-    25000,
-    10000,
-    1,
-    6001,
-    2,
-    2,
-];
-
-const ROW_13: Row = [13, 4, 0, 40000, 35000, 0, 0, 0, 40000, 0, 1, 3000, 4, 2];
-
-const ROW_14: Row = [14, 1, 5000, 0, 15001, 0, 0, 0, 0, 0, 0, 0, 0, 0];
-
+// Points of the listing.
 const POINTS_12: [u64; 4] = [1000, 10000, 6000, 50000];
 
 const POINTS_13: [u64; 4] = [0, 0, 4000, 40000];

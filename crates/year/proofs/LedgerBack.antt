@@ -1,23 +1,21 @@
 -- A ledger that has been written is read back, where its words fit 64 bits, and ground 6 does not refuse it, where it is in order.
 use Prim.Native.Nat.{ℕ, _+_, _*_, _^_, _<_, _≤_}
-use mathlib.Core.Path.{_≡_, refl, ap, _∙_}
+use mathlib.Core.Path.{_≡_, refl, ap, _∙_, sym, subst}
 use mathlib.Core.List.{List, [], _∷_, _++_, List·Memᴰ, List·Memᴰ·head, List·Memᴰ·tail}
 use mathlib.Core.Bool.{false}
 use native.Mathlib.Omega.{arith}
 use lib.ListN.{length, drop}
-use lib.Dec.{ltb}
 use borrow.Author.Tests.{eq-eqb, le-ltb}
 use Rattle.words.specs.Lists.{sum}
 use Rattle.words.specs.Words.{number, bytesOf, numberAt, word64, entries, bytesOfWords, written}
-use Rattle.words.specs.Grounds.{outside}
-use Rattle.words.proofs.Tests.{lies-inside}
 use Rattle.words.proofs.Lists.{none-pass, EachBelow, below-nil, below-cons}
 use Rattle.words.proofs.Words.{first-word, entries-back, length-written}
-use Rattle.reading.specs.Block.{mostIds, Terms}
-use Rattle.reading.specs.Interval.{intervalsPerDay, mostKilowatts}
+use Rattle.reading.specs.Block.{Terms}
+use Rattle.reading.specs.Interval.{mostKilowatts}
 use Rattle.assessment.specs.Assessment.{Account, limit}
-use Rattle.ledger.specs.Ledger.{ledgerHeaderBytes, accountBytes, mostCents, mostCredited, Ledger, ledgerBytes, accountAt, accountCount, ledgerOf, accountWords, ledgerWords, notLaidOut, accountOutside, doesNotClose, notALedger}
+use Rattle.ledger.specs.Ledger.{accountBytes, mostCredited, Ledger, ledgerBytes, accountAt, accountCount, ledgerOf, accountWords, ledgerWords, notLaidOut, accountOutside, doesNotClose, notALedger}
 use Rattle.ledger.proofs.Sound.{AccountIn, LedgerIn}
+use Rattle.ledger.proofs.HeldTests.{sums-decide}
 
 -- words that fit 64 bits
 abbrev pub Fits : List ℕ → Type 0
@@ -147,18 +145,13 @@ closing l s = rw (eq-eqb (sum (λ a. a .charged) (l .accounts)) (sum (λ a. a .c
 
 -- a buffer that holds a ledger in order, where there is room for it, passes ground 6
 holds : (l : Ledger) (b : List ℕ) → ledgerOf b ≡ l → Laid l b → ledgerBytes (length (l .accounts)) ≤ length b → LedgerIn l → notALedger b ≡ false
-unfolding notALedger ledgerBytes
+unfolding ledgerBytes
 holds l b back p room s =
     let counted = p .count in
-    let e1 : ltb (length b) ledgerHeaderBytes ≡ false = le-ltb (length b) ledgerHeaderBytes (omega (arith, room)) in
-    let e2 = laid-out l b p in
-    let e3 : outside 1 mostIds (accountCount b) ≡ false = rw counted (lies-inside 1 mostIds (length (l .accounts)) (s .some) (s .few)) in
-    let e4 : ltb (length b) (ledgerHeaderBytes + accountBytes * accountCount b) ≡ false
-    = le-ltb (length b) (ledgerHeaderBytes + accountBytes * accountCount b) (omega (arith, counted, room)) in
-    let e5 = le-ltb (intervalsPerDay * l .terms .days) (l .earliest) (s .earliest) in
-    let e6 = le-ltb mostCents (l .carried) (s .carried) in
-    let e7 = none-pass (accountOutside (l .terms)) (l .accounts) (λ a m. account-good (l .terms) a (s .accounts a m)) in
-    rw (e1, e2, e3, e4, back, s .terms, s .ids, e5, e6, e7, closing l s)
+    let r : LedgerIn (ledgerOf b) = subst LedgerIn (sym back) s in
+    let accounts = none-pass (accountOutside (ledgerOf b .terms)) (ledgerOf b .accounts) (λ a m. account-good (ledgerOf b .terms) a (r .accounts a m)) in
+    sums-decide b (omega (arith, room)) (laid-out l b p) (r .terms) (omega (arith, counted, s .some)) (omega (arith, counted, s .few)) (r .ids) (omega (arith, counted, room)) (r .earliest) (r .carried) accounts
+    ∙ closing (ledgerOf b) r
 
 -- so ground 6 does not refuse a written ledger that fits, has room and is in order
 pub written-holds : (l : Ledger) (b : List ℕ) → LedgerFits l → ledgerBytes (length (l .accounts)) ≤ length b → LedgerIn l → notALedger (written (ledgerWords l) b) ≡ false
