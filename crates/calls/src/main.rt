@@ -1,14 +1,13 @@
 // Document 01's listing, and the cases that it does not mark (P), through opening and settling as C calls them: each answer, and the words that a call leaves. The buffers begin with every byte 255.
 
-mod buffers;
 mod left;
 
-use buffers::block;
-use buffers::file;
 use left::ledger_words;
 use left::result_words;
 use npa::npa_open;
 use npa::npa_settle;
+use shown::document::block;
+use shown::document::file;
 use shown::print::figure;
 use shown::print::words;
 ghost use mathlib.Core.Path.{_≡_};

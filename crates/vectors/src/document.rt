@@ -18,9 +18,9 @@ use shown::document::ROW_11;
 use shown::document::ROW_12;
 use shown::document::ROW_13;
 use shown::document::ROW_14;
+use shown::document::file;
 use shown::layout::Header;
 use shown::layout::Row;
-use shown::layout::put_words;
 use shown::print::figure;
 
 const CURVE_A: [u64; 4] = [1000, 20000, 5000, 100000];
@@ -126,19 +126,10 @@ pub fn intervals() {
     );
 }
 
-// The listing's file: header, rows and points one behind the other.
+// The sides of the ratio in the listing's file.
 fn listing_sides() -> Sides {
-    let mut file = [0u8; 312];
-    let head = [1, 1000, 30000, 365, 0, 0, 4, 40, 6, 264];
-    put_words(&mut file, 0, &head);
-    put_words(&mut file, 40, &ROW_11);
-    put_words(&mut file, 96, &ROW_12);
-    put_words(&mut file, 152, &ROW_13);
-    put_words(&mut file, 208, &ROW_14);
-    put_words(&mut file, 264, &CURVE_A);
-    put_words(&mut file, 280, &POINTS_12);
-    put_words(&mut file, 296, &POINTS_13);
-    sides(&file)
+    let listing = file(1000);
+    sides(&listing)
 }
 
 pub fn listing() {

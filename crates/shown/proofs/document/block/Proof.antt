@@ -1,10 +1,10 @@
--- `calls::buffers::block` meets its contract. Its words, written at the front, are the listing's block.
+-- `shown::document::block` meets its contract. Its words, written at the front, are the listing's block.
 use borrow.Author.Needs.{needs}
 use Rattle.words.specs.Words.{placedAt}
 use Rattle.ledger.specs.Figures.{listingBlock, blockWith}
 use Rattle.ledger.proofs.Computing.{computing}
-use Rattle.calls.proofs.buffers.block.Statement.{statement}
-use Rattle.calls.proofs.buffers.block.Tie as tie
+use Rattle.shown.proofs.document.block.Statement.{statement}
+use Rattle.shown.proofs.document.block.Tie as tie
 
 slice-aggregate-put-words : tie.Need-slice-aggregate-put-words
 slice-aggregate-put-words c = search needs

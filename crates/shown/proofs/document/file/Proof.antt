@@ -1,11 +1,11 @@
--- `calls::buffers::file` meets its contract. Its words, written one table behind the other, are the listing's file.
+-- `shown::document::file` meets its contract. Its words, written one table behind the other, are the listing's file.
 use mathlib.Core.Path.{ap, _∙_}
 use borrow.Author.Needs.{needs}
 use Rattle.words.specs.Words.{bytesOfWords, placedAt}
 use Rattle.settling.specs.Listing.{fileWith, row11, row12, row13, row14, listingPoints, listingFile}
 use Rattle.settling.proofs.Computing.{computing}
-use Rattle.calls.proofs.buffers.file.Statement.{statement}
-use Rattle.calls.proofs.buffers.file.Tie as tie
+use Rattle.shown.proofs.document.file.Statement.{statement}
+use Rattle.shown.proofs.document.file.Tie as tie
 
 slice-aggregate-put-words : tie.Need-slice-aggregate-put-words
 slice-aggregate-put-words c = search needs
