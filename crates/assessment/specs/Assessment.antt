@@ -233,9 +233,13 @@ pub record Account : Type 0 where
   pub charged : ℕ
   pub credited : ℕ
 
--- the account with an id; one with nothing in it where there is none, which ground 12 rules out
+-- an account of an id, with nothing in it
+unfoldable pub emptyAccount : ℕ → Account
+emptyAccount i = record { id = i; largest = 0; charged = 0; credited = 0 }
+
+-- the account with an id; an empty one where there is none, which ground 12 rules out
 unfoldable pub accountOf : ℕ → List Account → Account
-accountOf i [] = record { id = i; largest = 0; charged = 0; credited = 0 }
+accountOf i [] = emptyAccount i
 accountOf i (a ∷ rest) = cond (eqb (a .id) i) a (accountOf i rest)
 
 -- an account whose largest commitment a row has raised to its committed kW, if that is larger

@@ -2,8 +2,8 @@
 use Prim.Native.Nat.{ℕ}
 use Rattle.assessment.proofs.Computing.{computing as assessment-computing}
 use Rattle.ledger.specs.Ledger.{ledgerBytes, accountAt, accountCount, ledgerOf, accountWords, ledgerWords, idsIn, notLaidOut, accountOutside, doesNotClose, notALedger}
-use Rattle.ledger.specs.Opening.{ledgerTooShort, openingGrounds, emptyAccount, openedLedger, opening}
+use Rattle.ledger.specs.Opening.{ledgerTooShort, openingGrounds, openedLedger, opening}
 
 unfoldable pub computing : ℕ
-unfolding assessment-computing ledgerBytes accountAt accountCount ledgerOf accountWords ledgerWords idsIn notLaidOut accountOutside doesNotClose notALedger ledgerTooShort openingGrounds emptyAccount openedLedger opening
+unfolding assessment-computing ledgerBytes accountAt accountCount ledgerOf accountWords ledgerWords idsIn notLaidOut accountOutside doesNotClose notALedger ledgerTooShort openingGrounds openedLedger opening
 computing = 0

@@ -9,8 +9,9 @@ use lib.Seq.{drop-cons}
 use Rattle.words.specs.Words.{written, writtenAt}
 use Rattle.words.proofs.Access.{write-more, write-none, written-at-zero}
 use Rattle.reading.specs.Block.{blockOf}
+use Rattle.assessment.specs.Assessment.{emptyAccount}
 use Rattle.ledger.specs.Ledger.{ledgerHeaderBytes, accountBytes, accountWords, ledgerWords}
-use Rattle.ledger.specs.Opening.{emptyAccount, openedLedger}
+use Rattle.ledger.specs.Opening.{openedLedger}
 use Rattle.reading.proofs.Bounds.{length-ids}
 
 -- the words of new accounts

@@ -7,7 +7,7 @@ use lib.Dec.{ltb, eqb}
 use Rattle.words.specs.Words.{written}
 use Rattle.words.specs.Grounds.{answered}
 use Rattle.reading.specs.Block.{blockOf, notABlock, termsOutside, idsMisplaced, idsOutOfOrder}
-use Rattle.assessment.specs.Assessment.{Account}
+use Rattle.assessment.specs.Assessment.{emptyAccount}
 use Rattle.ledger.specs.Ledger.{Ledger, ledgerBytes, ledgerWords}
 
 -- ground 5: the ledger buffer is too short for the block's ids
@@ -23,10 +23,6 @@ openingGrounds block ledger =
     ∷ (idsOutOfOrder (blockOf block .ids), 4)
     ∷ (ledgerTooShort block ledger, 5)
     ∷ []
-
--- an account of an id, with nothing in it
-unfoldable pub emptyAccount : ℕ → Account
-emptyAccount i = record { id = i; largest = 0; charged = 0; credited = 0 }
 
 -- the ledger of a block: words 3 and 4 and all account words but the ids are 0
 unfoldable pub openedLedger : List ℕ → Ledger

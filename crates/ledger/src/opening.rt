@@ -21,8 +21,9 @@ ghost use lib.ListN.{length};
 ghost use Rattle.words.specs.Words.{written, writtenAt};
 ghost use Rattle.words.specs.Grounds.{answered};
 ghost use Rattle.reading.specs.Block.{blockOf};
+ghost use Rattle.assessment.specs.Assessment.{emptyAccount};
 ghost use Rattle.ledger.specs.Ledger.{ledgerBytes, accountWords, ledgerWords};
-ghost use Rattle.ledger.specs.Opening.{openingGrounds, emptyAccount, openedLedger, opening as openingOf};
+ghost use Rattle.ledger.specs.Opening.{openingGrounds, openedLedger, opening as openingOf};
 
 // The first of grounds 1 to 5 that applies, or 0.
 fn refusal(block: &[u8], ledger: &[u8]) -> u32

@@ -22,7 +22,7 @@ use Rattle.assessment.proofs.SumLaws.{partFrom, part-length, curve-within, fail
 use Rattle.assessment.proofs.Promises.{figures-in}
 use Rattle.assessment.proofs.ChargeLaws.{charge-reads, charge-considered}
 use Rattle.ledger.specs.Ledger.{ledgerBytes, accountAt, accountCount, ledgerOf, accountOutside}
-use Rattle.settling.specs.Settling.{assessedFile}
+use Rattle.settling.specs.Settling.{rowWords, assessedFile}
 use Rattle.settling.specs.Scratch.{Passed, chargedWords}
 use Rattle.settling.proofs.Beside.{unmatched, met, passed-by, missed, none-left, by-order}
 use Rattle.settling.proofs.Meeting.{accountIds, rowIds, chargedTo, chargedBeside, charged-met, charged-passed, charged-own, accounts-rise, all-meet}
@@ -38,7 +38,7 @@ charged-words : (t : Terms) (q : Ratio) (account : Account) (r : Row) (rest : Li
     → Figured (rowFigures q r) e a o k s b
     → cents ≡ charge t (raised r account) (rowFigures q r .shortfall)
     → chargedWords (chargedTo t q account r ∷ rest) ≡ (e ∷ a ∷ o ∷ k ∷ s ∷ b ∷ cents ∷ 0 ∷ []) ++ chargedWords rest
-unfolding chargedWords chargedTo
+unfolding rowWords chargedTo
 charged-words t q account r rest e a o k s b cents figures charged =
     let (is-e, is-a, is-o, is-k, is-s, is-b) = figures in
     let is-cents = charged ∙ sym (charge-considered t q (raised r account) r) in
@@ -105,7 +105,7 @@ module _ {ledger file : List ℕ} {q : Ratio} {cone days count first : ℕ} wher
   -- no row is left: the words are those of the interval that the file makes of the ledger
   pub walk-ends : {rows : List ℕ} {i j : ℕ} → Walking ledger file q cone days count first rows i j → count ≤ i → q ≡ ratioOf (headerOf file) (rowsOf file)
       → rows ≡ chargedWords (assessedFile ledger file .rows)
-  unfolding chargedBeside chargedWords assessedFile assessed
+  unfolding chargedBeside rowWords assessedFile assessed
   walk-ends {rows} {i} {j} w end ratio =
       let all = ledgerOf ledger .accounts in
       let whole : length rows ≤ 8 * i = omega (arith, w .long, w .count-is, end) in

@@ -88,24 +88,24 @@ entry-fails p size read (suc n) b (suc i) h e =
     ∙ entry-fails p size read n (drop size b) i (omega arith) (not-second (p (read b)) (any p (entries size read n (drop size b))) e)
 
 -- word k of row i
-row-word : {A : Type 0} (v : Assessed) (charged : A → ChargedRow) (size : ℕ) (read : List ℕ → A) (k : ℕ) → k < 8 → (n : ℕ) (b : List ℕ) (i : ℕ) → i < n
-    → getD (rowWords v (map charged (entries size read n b))) (8 * i + k) 0 ≡ getD (rowWords v (charged (read (drop (size * i) b)) ∷ [])) k 0
+row-word : {A : Type 0} (credited : ChargedRow → ℕ) (charged : A → ChargedRow) (size : ℕ) (read : List ℕ → A) (k : ℕ) → k < 8 → (n : ℕ) (b : List ℕ) (i : ℕ) → i < n
+    → getD (rowWords credited (map charged (entries size read n b))) (8 * i + k) 0 ≡ getD (rowWords credited (charged (read (drop (size * i) b)) ∷ [])) k 0
 unfolding rowWords entries
-row-word v charged size read k low zero b i h = absurd (omega arith)
-row-word v charged size read k low (suc n) b zero h =
+row-word credited charged size read k low zero b i h = absurd (omega arith)
+row-word credited charged size read k low (suc n) b zero h =
     let front : size * 0 ≡ 0 = omega arith in
     let here : 8 * 0 + k ≡ k = omega arith in
-    ap (λ at. getD (rowWords v (map charged (entries size read (suc n) b))) at 0) here
-    ∙ List·getD-append (rowWords v (charged (read b) ∷ [])) (rowWords v (map charged (entries size read n (drop size b)))) 0 k low
-    ∙ ap (λ at. getD (rowWords v (charged (read (drop at b)) ∷ [])) k 0) (sym front)
-row-word v charged size read k low (suc n) b (suc i) h =
+    ap (λ at. getD (rowWords credited (map charged (entries size read (suc n) b))) at 0) here
+    ∙ List·getD-append (rowWords credited (charged (read b) ∷ [])) (rowWords credited (map charged (entries size read n (drop size b)))) 0 k low
+    ∙ ap (λ at. getD (rowWords credited (charged (read (drop at b)) ∷ [])) k 0) (sym front)
+row-word credited charged size read k low (suc n) b (suc i) h =
     let next : size + size * i ≡ size * suc i = omega arith in
     let here : 8 * suc i + k ≡ 8 + (8 * i + k) = omega arith in
-    let all = rowWords v (map charged (entries size read (suc n) b)) in
+    let all = rowWords credited (map charged (entries size read (suc n) b)) in
     ap (λ at. getD all at 0) here
     ∙ sym (getD-drop 8 all (8 * i + k) 0)
-    ∙ row-word v charged size read k low n (drop size b) i (omega arith)
-    ∙ ap (λ d. getD (rowWords v (charged (read d) ∷ [])) k 0) (drop-drop (size * i) size b ∙ ap (λ k. drop k b) next)
+    ∙ row-word credited charged size read k low n (drop size b) i (omega arith)
+    ∙ ap (λ d. getD (rowWords credited (charged (read d) ∷ [])) k 0) (drop-drop (size * i) size b ∙ ap (λ k. drop k b) next)
 
 -- four words that are an account's
 pub account-is : (id largest charged credited : ℕ) (a : Account) → (id ≡ a .id) × (largest ≡ a .largest) × (charged ≡ a .charged) × (credited ≡ a .credited)
@@ -160,19 +160,19 @@ module _ (b f : List ℕ) where
       ids (r ∷ rs) = ap₂ _∷_ (unfold chargedRow in refl) (ids rs)
 
   -- the rows' words in scratch
-  module _ (rows : List ℕ) (filled : rows ≡ rowWords v (v .rows)) where
+  module _ (rows : List ℕ) (filled : rows ≡ rowWords (credit v) (v .rows)) where
     -- scratch has eight words for each row of the file
     pub rows-long : length rows ≡ 8 * headerOf f .rowCount
     rows-long =
-        omega (arith, ap length filled, length-row-words v (v .rows), count-is b f)
+        omega (arith, ap length filled, length-row-words (credit v) (v .rows), count-is b f)
 
     -- word k of row i in scratch is word k of charged row i in the result
-    word-at : (i k : ℕ) → k < 8 → i < headerOf f .rowCount → getD rows (8 * i + k) 0 ≡ getD (rowWords v (chargedAt i ∷ [])) k 0
+    word-at : (i k : ℕ) → k < 8 → i < headerOf f .rowCount → getD rows (8 * i + k) 0 ≡ getD (rowWords (credit v) (chargedAt i ∷ [])) k 0
     unfolding rowsOf
     word-at i k low h =
-        ap (λ ws. getD ws (8 * i + k) 0) (filled ∙ ap (rowWords v) (rows-are b f))
-        ∙ row-word v charged rowBytes (rowOf f) k low (headerOf f .rowCount) (drop (headerOf f .rowsOffset) f) i h
-        ∙ ap (λ d. getD (rowWords v (charged (rowOf f d) ∷ [])) k 0) (drop-drop (rowBytes * i) (headerOf f .rowsOffset) f)
+        ap (λ ws. getD ws (8 * i + k) 0) (filled ∙ ap (rowWords (credit v)) (rows-are b f))
+        ∙ row-word (credit v) charged rowBytes (rowOf f) k low (headerOf f .rowCount) (drop (headerOf f .rowsOffset) f) i h
+        ∙ ap (λ d. getD (rowWords (credit v) (charged (rowOf f d) ∷ [])) k 0) (drop-drop (rowBytes * i) (headerOf f .rowsOffset) f)
 
     -- word 6 of row i in scratch is its charge
     pub charge-at : (i : ℕ) → i < headerOf f .rowCount → getD rows (8 * i + 6) 0 ≡ chargedAt i .charge

@@ -5,7 +5,7 @@ use mathlib.Core.List.{List, [], _∷_, _++_, map, append-assoc, List·Memᴰ, L
 use mathlib.Core.Bool.{Bool, true, false, cond}
 use native.Mathlib.Nat.{mul-le-mul-right}
 use native.Mathlib.Omega.{arith}
-use lib.ListN.{length, take, drop, getD, length-map, length-append}
+use lib.ListN.{length, take, drop, getD, length-map, length-append, List·getD-append}
 use lib.Dec.{eqb}
 use lib.Seq.{drop-drop, drop-at, length-take-le, getD-append-add}
 use Rattle.words.specs.Lists.{sum, any}
@@ -16,86 +16,81 @@ use Rattle.words.proofs.Tests.{not-first, not-second}
 use Rattle.reading.specs.Block.{Terms}
 use Rattle.reading.specs.Interval.{mostKilowatts, mostRows, Row, headerOf, rowsOf}
 use Rattle.reading.proofs.Bounds.{terms-in, header-in, RowIn, rows-in, length-rows}
-use Rattle.assessment.specs.Assessment.{ratioOf, numerator, denominator, portion, printedRatio, Account, accountOf, raised, charge, rowFigures, ChargedRow, chargedRow, Assessed, assessed, charges, totalBonus, pool, share, credit, credits, carriedOn}
+use Rattle.assessment.specs.Assessment.{ratioOf, numerator, denominator, portion, printedRatio, Account, emptyAccount, accountOf, raised, charge, rowFigures, ChargedRow, chargedRow, Assessed, assessed, charges, totalBonus, pool, share, credit, credits, carriedOn}
 use Rattle.assessment.proofs.Promises.{if-le, FiguresIn, figures-in, numerator-le}
 use Rattle.assessment.proofs.Limits.{limit-le, charge-le, mostLimit}
 use Rattle.assessment.proofs.Shares.{credits-le, credit-is-share}
 use Rattle.ledger.specs.Ledger.{ledgerHeaderBytes, mostCents, ledgerOf, accountCount, accountWords, ledgerWords, accountOutside}
 use Rattle.settling.specs.Settling.{rowWords, resultWords, assessedFile, postedAll, settledLedger}
-use Rattle.settling.specs.Scratch.{Passed, chargedWords, sumOfWord, withCredits}
+use Rattle.settling.specs.Scratch.{Passed, sumOfWord, withCredits}
 use Rattle.ledger.proofs.Sound.{account-in, length-accounts}
 
--- the sums of words 5, 6 and 7 of rows are those of bonuses, charges and credits
-pub sum-of-charges : (cs : List ChargedRow) → sumOfWord 6 (length cs) (chargedWords cs) ≡ sum (λ c. c .charge) cs
-unfolding sumOfWord chargedWords sum
-sum-of-charges [] = refl
-sum-of-charges (c ∷ cs) = ap (λ s. c .charge + s) (sum-of-charges cs)
-
--- word 5, summed over charged rows, is the sum of their bonuses
-pub sum-of-bonus : (cs : List ChargedRow) → sumOfWord 5 (length cs) (chargedWords cs) ≡ sum (λ c. c .figures .bonus) cs
-unfolding sumOfWord chargedWords sum
-sum-of-bonus [] = refl
-sum-of-bonus (c ∷ cs) = ap (λ s. c .figures .bonus + s) (sum-of-bonus cs)
-
--- word 7, summed over rows of the result, is the sum of their credits
-pub sum-of-credits : (v : Assessed) (cs : List ChargedRow) → sumOfWord 7 (length cs) (rowWords v cs) ≡ sum (credit v) cs
-unfolding sumOfWord rowWords sum
-sum-of-credits v [] = refl
-sum-of-credits v (c ∷ cs) = ap (λ s. credit v c + s) (sum-of-credits v cs)
-
 -- eight words a row
-pub length-charged : (cs : List ChargedRow) → length (chargedWords cs) ≡ 8 * length cs
-unfolding chargedWords
-length-charged [] = refl
-length-charged (c ∷ cs) = omega (arith, length-charged cs)
-
--- rows of the result have eight words each too
-pub length-row-words : (v : Assessed) (cs : List ChargedRow) → length (rowWords v cs) ≡ 8 * length cs
+pub length-row-words : (credited : ChargedRow → ℕ) (cs : List ChargedRow) → length (rowWords credited cs) ≡ 8 * length cs
 unfolding rowWords
-length-row-words v [] = refl
-length-row-words v (c ∷ cs) = omega (arith, length-row-words v cs)
+length-row-words credited [] = refl
+length-row-words credited (c ∷ cs) = omega (arith, length-row-words credited cs)
 
--- the eight words of a row in the result are below a bound
-pub record RowBelow (n : ℕ) (v : Assessed) (c : ChargedRow) : Type 0 where
-  pub expected : c .figures .expected < n
-  pub actual : c .figures .actual < n
-  pub outage : c .figures .outage < n
-  pub economic : c .figures .economic < n
-  pub shortfall : c .figures .shortfall < n
-  pub bonus : c .figures .bonus < n
-  pub charge : c .charge < n
-  pub credit : credit v c < n
+-- word k, summed over rows, is the sum of each row's own word k
+sum-of-words : (credited : ChargedRow → ℕ) (k : ℕ) → k < 8 → (cs : List ChargedRow)
+    → sumOfWord k (length cs) (rowWords credited cs) ≡ sum (λ c. getD (rowWords credited (c ∷ [])) k 0) cs
+unfolding sumOfWord rowWords sum
+sum-of-words credited k low [] = refl
+sum-of-words credited k low (c ∷ cs) =
+    ap₂ _+_ (List·getD-append (rowWords credited (c ∷ [])) (rowWords credited cs) 0 k low) (sum-of-words credited k low cs)
 
--- and so are those of several rows
-pub row-words-below : (n : ℕ) (v : Assessed) (cs : List ChargedRow) → ((c : ChargedRow) → List·Memᴰ c cs → RowBelow n v c) → EachBelow n (rowWords v cs)
+-- a row's figures are within their bounds, and its charge and its credit are at most so many cents
+pub record RowWithin (most : ℕ) (credited : ChargedRow → ℕ) (c : ChargedRow) : Type 0 where
+  pub figures : FiguresIn (c .figures)
+  pub charge : c .charge ≤ most
+  pub credit : credited c ≤ most
+
+-- an interval of a pool of at most so many cents has such rows
+pub row-within : (v : Assessed) (most : ℕ) → pool v ≤ most → (c : ChargedRow) → List·Memᴰ c (v .rows) → FiguresIn (c .figures) → RowWithin most (credit v) c
+unfolding pool charges credits
+row-within v most small c m own = record {
+  figures = own;
+  charge = omega (arith, member-le (λ c. c .charge) m, small);
+  credit = omega (arith, member-le (credit v) m, credits-le v, small);
+}
+
+-- the words of such rows are below what is above all kW and those cents
+pub row-words-below : (n most : ℕ) → 2 * mostKilowatts < n → most < n → (credited : ChargedRow → ℕ) (cs : List ChargedRow)
+    → ((c : ChargedRow) → List·Memᴰ c cs → RowWithin most credited c) → EachBelow n (rowWords credited cs)
 unfolding rowWords
-row-words-below n v [] each = below-nil
-row-words-below n v (c ∷ cs) each =
+row-words-below n most kw cents credited [] each = below-nil
+row-words-below n most kw cents credited (c ∷ cs) each =
     let w = each c (List·Memᴰ·head refl) in
-    let later = row-words-below n v cs (λ d m. each d (List·Memᴰ·tail m)) in
-    let last = below-cons _ _ (w .bonus) (below-cons _ _ (w .charge) (below-cons _ _ (w .credit) later)) in
-    below-cons _ _ (w .expected) (below-cons _ _ (w .actual) (below-cons _ _ (w .outage) (below-cons _ _ (w .economic) (below-cons _ _ (w .shortfall) last))))
+    let own = c .figures in
+    let f = w .figures in
+    let later = row-words-below n most kw cents credited cs (λ d m. each d (List·Memᴰ·tail m)) in
+    let paid = below-cons (c .charge) _ (omega (arith, w .charge)) (below-cons (credited c) _ (omega (arith, w .credit)) later) in
+    let bonus = below-cons (own .bonus) _ (omega (arith, f .bonus)) paid in
+    let shortfall = below-cons (own .shortfall) _ (omega (arith, f .shortfall)) bonus in
+    let economic = below-cons (own .economic) _ (omega (arith, f .economic)) shortfall in
+    let outage = below-cons (own .outage) _ (omega (arith, f .outage)) economic in
+    below-cons (own .expected) _ (omega (arith, f .expected)) (below-cons (own .actual) _ (omega (arith, f .actual)) outage)
 
 -- bonus words of rows of at most so much each
-pub bonus-words : (most : ℕ) (cs : List ChargedRow) → ((c : ChargedRow) → List·Memᴰ c cs → c .figures .bonus ≤ most) → (i : ℕ) → getD (chargedWords cs) (8 * i + 5) 0 ≤ most
-unfolding chargedWords
-bonus-words most [] each i = omega arith
-bonus-words most (c ∷ cs) each zero = each c (List·Memᴰ·head refl)
-bonus-words most (c ∷ cs) each (suc i) =
+bonus-words : (most : ℕ) (credited : ChargedRow → ℕ) (cs : List ChargedRow) → ((c : ChargedRow) → List·Memᴰ c cs → c .figures .bonus ≤ most)
+    → (i : ℕ) → getD (rowWords credited cs) (8 * i + 5) 0 ≤ most
+unfolding rowWords
+bonus-words most credited [] each i = omega arith
+bonus-words most credited (c ∷ cs) each zero = each c (List·Memᴰ·head refl)
+bonus-words most credited (c ∷ cs) each (suc i) =
     let next : 8 * suc i + 5 ≡ 8 + (8 * i + 5) = omega arith in
-    let f = c .figures in
-    let row : List ℕ = f .expected ∷ f .actual ∷ f .outage ∷ f .economic ∷ f .shortfall ∷ f .bonus ∷ c .charge ∷ 0 ∷ [] in
-    let skip : getD (chargedWords (c ∷ cs)) (8 + (8 * i + 5)) 0 ≡ getD (chargedWords cs) (8 * i + 5) 0 = getD-append-add row (chargedWords cs) (8 * i + 5) 0 in
-    rw (next, skip) (bonus-words most cs (λ d m. each d (List·Memᴰ·tail m)) i)
+    let skip = getD-append-add (rowWords credited (c ∷ [])) (rowWords credited cs) (8 * i + 5) 0 in
+    rw (next, skip) (bonus-words most credited cs (λ d m. each d (List·Memᴰ·tail m)) i)
 
--- credits in place of the zeros make the rows' words of the result
-pub credited-words : (v : Assessed) (cs : List ChargedRow) → ((c : ChargedRow) → List·Memᴰ c cs → credit v c ≡ share (pool v) (totalBonus v) (c .figures .bonus))
-    → withCredits (pool v) (totalBonus v) (length cs) (chargedWords cs) ≡ rowWords v cs
-unfolding withCredits chargedWords rowWords
-credited-words v [] each = refl
-credited-words v (c ∷ cs) each =
+-- shares of cents in place of any credits make the words of rows that are credited so
+credited-words : (cents total : ℕ) (before after : ChargedRow → ℕ) (cs : List ChargedRow)
+    → ((c : ChargedRow) → List·Memᴰ c cs → after c ≡ share cents total (c .figures .bonus))
+    → withCredits cents total (length cs) (rowWords before cs) ≡ rowWords after cs
+unfolding withCredits rowWords
+credited-words cents total before after [] each = refl
+credited-words cents total before after (c ∷ cs) each =
     λ k. c .figures .expected ∷ c .figures .actual ∷ c .figures .outage ∷ c .figures .economic ∷ c .figures .shortfall ∷ c .figures .bonus ∷ c .charge
-    ∷ sym (each c (List·Memᴰ·head refl)) k ∷ credited-words v cs (λ d m. each d (List·Memᴰ·tail m)) k
+    ∷ sym (each c (List·Memᴰ·head refl)) k ∷ credited-words cents total before after cs (λ d m. each d (List·Memᴰ·tail m)) k
 
 -- writing words in front of words that have just been written behind them
 pub write-front : (ws vs b : List ℕ) → 8 * length ws ≤ length b → written ws (writtenAt (8 * length ws) vs b) ≡ written (ws ++ vs) b
@@ -112,7 +107,7 @@ write-front ws vs b h =
 
 -- the commitment of an account found by its id
 account-largest : (t : Terms) (i : ℕ) (accounts : List Account) → any (accountOutside t) accounts ≡ false → accountOf i accounts .largest ≤ mostKilowatts
-unfolding any accountOf
+unfolding any emptyAccount accountOf
 account-largest t i [] e = omega arith
 account-largest t i (a ∷ accounts) e =
     by (eqb (a .id) i) (account-in t a (not-first (accountOutside t a) (any (accountOutside t) accounts) e) .largest)
@@ -189,21 +184,6 @@ module _ (ledger file : List ℕ) (p : Passed ledger file) where
         credit = credit-is-share v (ledgerOf ledger .terms) (ledgerOf ledger .accounts) (ratioOf (headerOf file) (rowsOf file)) r;
       })
 
-  -- the sums that the code takes, and that none of them wraps
-  pub charges-sum : sumOfWord 6 (headerOf file .rowCount) (chargedWords (v .rows)) ≡ charges v
-  unfolding charges
-  charges-sum = ap (λ n. sumOfWord 6 n (chargedWords (v .rows))) (sym (count-is ledger file)) ∙ sum-of-charges (v .rows)
-
-  -- word 5, summed over the charged rows in scratch, is the total bonus
-  pub bonus-sum : sumOfWord 5 (headerOf file .rowCount) (chargedWords (v .rows)) ≡ totalBonus v
-  unfolding totalBonus
-  bonus-sum = ap (λ n. sumOfWord 5 n (chargedWords (v .rows))) (sym (count-is ledger file)) ∙ sum-of-bonus (v .rows)
-
-  -- word 7, summed over the rows of the result, is the sum of the credits
-  pub credits-sum : sumOfWord 7 (headerOf file .rowCount) (rowWords v (v .rows)) ≡ credits v
-  unfolding credits
-  credits-sum = ap (λ n. sumOfWord 7 n (rowWords v (v .rows))) (sym (count-is ledger file)) ∙ sum-of-credits v (v .rows)
-
   -- the charges come to no more than the largest limit for each of the most rows
   pub charges-fit : charges v ≤ mostRows * mostLimit
   unfolding charges
@@ -220,38 +200,16 @@ module _ (ledger file : List ℕ) (p : Passed ledger file) where
       let few : length (v .rows) ≤ mostRows = omega (arith, count-is ledger file, p .rows-few) in
       omega (arith, all, mul-le-mul-right (2 * mostKilowatts) few)
 
-  -- the bonus word of each row is at most 8000000
-  pub each-bonus : (i : ℕ) → getD (chargedWords (v .rows)) (8 * i + 5) 0 ≤ 8000000
-  each-bonus = bonus-words 8000000 (v .rows) (λ c m. row-known c m .figures .bonus)
-
-  -- the rows' words with their credits
-  pub credited : withCredits (pool v) (totalBonus v) (headerOf file .rowCount) (chargedWords (v .rows)) ≡ rowWords v (v .rows)
-  credited = ap (λ n. withCredits (pool v) (totalBonus v) n (chargedWords (v .rows))) (sym (count-is ledger file)) ∙ credited-words v (v .rows) (λ c m. row-known c m .credit)
-
   -- where the pool is not too large, no word of the rows in the result is above the most cents
-  pub each-word : pool v ≤ mostCents → (k : ℕ) → getD (rowWords v (v .rows)) k 0 ≤ mostCents
-  unfolding credits
+  pub each-word : pool v ≤ mostCents → (k : ℕ) → getD (rowWords (credit v) (v .rows)) k 0 ≤ mostCents
   each-word small k =
-      let below = row-words-below (mostCents + 1) v (v .rows)
-      (λ c m.
-      let known = row-known c m in
-      let f = known .figures in
-      record {
-        expected = omega (arith, f .expected);
-        actual = omega (arith, f .actual);
-        outage = omega (arith, f .outage);
-        economic = omega (arith, f .economic);
-        shortfall = omega (arith, f .shortfall);
-        bonus = omega (arith, f .bonus);
-        charge = omega (arith, known .charge);
-        credit = omega (arith, member-le (credit v) m, credits-le v, small);
-      })
-      in
-      omega (arith, below-at (rowWords v (v .rows)) k (omega arith) below)
+      let within : (c : ChargedRow) → List·Memᴰ c (v .rows) → RowWithin mostCents (credit v) c = λ c m. row-within v mostCents small c m (row-known c m .figures) in
+      let below = row-words-below (mostCents + 1) mostCents (omega arith) (omega arith) (credit v) (v .rows) within in
+      omega (arith, below-at (rowWords (credit v) (v .rows)) k (omega arith) below)
 
   -- the result's words
   pub result-is : (ratio charged given rest bonus upper lower count : ℕ) (ws : List ℕ) → ratio ≡ printedRatio (v .ratio) → charged ≡ charges v → given ≡ credits v → rest ≡ carriedOn v → bonus ≡ totalBonus v
-      → upper ≡ numerator (headerOf file) (rowsOf file) → lower ≡ denominator (rowsOf file) → count ≡ headerOf file .rowCount → ws ≡ rowWords v (v .rows)
+      → upper ≡ numerator (headerOf file) (rowsOf file) → lower ≡ denominator (rowsOf file) → count ≡ headerOf file .rowCount → ws ≡ rowWords (credit v) (v .rows)
       → ratio ∷ charged ∷ given ∷ rest ∷ bonus ∷ upper ∷ lower ∷ count ∷ ws ≡ resultWords v
   unfolding resultWords
   result-is ratio charged given rest bonus upper lower count ws a b c d e f g h w =
@@ -267,49 +225,62 @@ module _ (ledger file : List ℕ) (p : Passed ledger file) where
       let all : count ≡ length posts = e ∙ sym (length-map (ledgerOf ledger .accounts) (postedAll v (v .rows)) ∙ length-accounts ledger) in
       λ k. 1 ∷ a k ∷ b k ∷ c k ∷ d k ∷ all k ∷ 8 ∷ 0 ∷ accountWords posts
 
-  -- what the sums over scratch words require, and what they come to
-  module _ (ws : List ℕ) (n : ℕ) (rows : n ≡ headerOf file .rowCount) where
-    module _ (words : ws ≡ chargedWords (v .rows)) where
-      -- the charged rows in scratch have eight words each
-      charged-length : length ws ≡ 8 * n
-      charged-length = ap length words ∙ length-charged (v .rows) ∙ ap (λ k. 8 * k) (count-is ledger file ∙ sym rows)
+  -- scratch that holds the rows' words, whatever their credits
+  module _ (ws : List ℕ) (n : ℕ) (rows : n ≡ headerOf file .rowCount) (credited : ChargedRow → ℕ) (words : ws ≡ rowWords credited (v .rows)) where
+    -- there are as many rows as the interval has
+    as-many : n ≡ length (v .rows)
+    as-many = rows ∙ sym (count-is ledger file)
 
-      -- word 6, summed over scratch, is the sum of the charges
-      pub charges-are : sumOfWord 6 n ws ≡ charges v
-      charges-are = ap₂ (sumOfWord 6) rows words ∙ charges-sum
+    -- eight words for each row
+    pub words-long : length ws ≡ 8 * n
+    words-long = omega (arith, ap length words, length-row-words credited (v .rows), as-many)
 
-      -- what summing word 6 requires: eight words a row, a word number below 8, and a sum that does not wrap
-      pub charges-required : (length ws ≡ 8 * n) × ((6 < 8) × (sumOfWord 6 n ws < 2 ^ 64))
-      charges-required = (charged-length, (omega arith, omega (arith, charges-are, charges-fit)))
+    -- word k, summed over scratch, is the sum of the rows' own
+    sum-is : (k : ℕ) → k < 8 → sumOfWord k n ws ≡ sum (λ c. getD (rowWords credited (c ∷ [])) k 0) (v .rows)
+    sum-is k low = ap₂ (sumOfWord k) as-many words ∙ sum-of-words credited k low (v .rows)
 
-      -- word 5, summed over scratch, is the total bonus
-      pub bonus-is : sumOfWord 5 n ws ≡ totalBonus v
-      bonus-is = ap₂ (sumOfWord 5) rows words ∙ bonus-sum
+    -- what summing word k requires: eight words a row, a word number below 8, and a sum that does not wrap
+    sum-required : (k total : ℕ) → k < 8 → sumOfWord k n ws ≡ total → total < 2 ^ 64 → (length ws ≡ 8 * n) × ((k < 8) × (sumOfWord k n ws < 2 ^ 64))
+    sum-required k total low is fits = (words-long, (low, omega (arith, is, fits)))
 
-      -- what summing word 5 requires: eight words a row, a word number below 8, and a sum that does not wrap
-      pub bonus-required : (length ws ≡ 8 * n) × ((5 < 8) × (sumOfWord 5 n ws < 2 ^ 64))
-      bonus-required = (charged-length, (omega arith, omega (arith, bonus-is, bonus-fits)))
+    -- word 5, summed over scratch, is the total bonus
+    pub bonus-is : sumOfWord 5 n ws ≡ totalBonus v
+    unfolding totalBonus rowWords
+    bonus-is = sum-is 5 (omega arith)
 
-      -- what crediting the rows requires: eight words a row, and bounds on the cents and on each bonus word
-      pub credit-required : (cents : ℕ) → cents ≤ mostCents → (length ws ≡ 8 * n) × ((cents ≤ 1099511627775) × ((i : ℕ) → getD ws (8 * i + 5) 0 ≤ 8000000))
-      credit-required cents small = (charged-length, (small, λ i. rw words (each-bonus i)))
+    -- so summing it does not wrap
+    pub bonus-required : (length ws ≡ 8 * n) × ((5 < 8) × (sumOfWord 5 n ws < 2 ^ 64))
+    bonus-required = sum-required 5 (totalBonus v) (omega arith) bonus-is (omega (arith, bonus-fits))
 
-      -- crediting scratch out of the pool, by the bonus summed, makes the rows' words of the result
-      pub credited-is : (cents bonus : ℕ) → cents ≡ pool v → bonus ≡ sumOfWord 5 n ws → withCredits cents bonus n ws ≡ rowWords v (v .rows)
-      credited-is cents bonus e f = (λ k. withCredits (e k) ((f ∙ bonus-is) k) (rows k) (words k)) ∙ credited
+    -- word 6, summed over scratch, is the sum of the charges
+    pub charges-are : sumOfWord 6 n ws ≡ charges v
+    unfolding charges rowWords
+    charges-are = sum-is 6 (omega arith)
 
-    module _ (words : ws ≡ rowWords v (v .rows)) where
-      -- the credited rows in scratch have eight words each
-      pub credited-length : length ws ≡ 8 * n
-      credited-length = ap length words ∙ length-row-words v (v .rows) ∙ ap (λ k. 8 * k) (count-is ledger file ∙ sym rows)
+    -- so summing it does not wrap
+    pub charges-required : (length ws ≡ 8 * n) × ((6 < 8) × (sumOfWord 6 n ws < 2 ^ 64))
+    charges-required = sum-required 6 (charges v) (omega arith) charges-are (omega (arith, charges-fit))
 
-      -- word 7, summed over scratch, is the sum of the credits
-      pub credits-are : sumOfWord 7 n ws ≡ credits v
-      credits-are = ap₂ (sumOfWord 7) rows words ∙ credits-sum
+    -- what crediting the rows requires: eight words a row, and bounds on the cents and on each bonus word
+    pub credit-required : (cents : ℕ) → cents ≤ mostCents → (length ws ≡ 8 * n) × ((cents ≤ 1099511627775) × ((i : ℕ) → getD ws (8 * i + 5) 0 ≤ 8000000))
+    credit-required cents small = (words-long, (small, λ i. rw words (bonus-words 8000000 credited (v .rows) (λ c m. row-known c m .figures .bonus) i)))
 
-      -- what summing word 7 requires, which holds where the pool is not too large
-      pub credits-required : pool v ≤ mostCents → (length ws ≡ 8 * n) × ((7 < 8) × (sumOfWord 7 n ws < 2 ^ 64))
-      credits-required small = (credited-length, (omega arith, omega (arith, credits-are, credits-le v, small)))
+    -- crediting scratch out of the pool, by the bonus summed, makes the rows' words of the result
+    pub credited-is : (cents bonus : ℕ) → cents ≡ pool v → bonus ≡ sumOfWord 5 n ws → withCredits cents bonus n ws ≡ rowWords (credit v) (v .rows)
+    credited-is cents bonus e f =
+        (λ k. withCredits (e k) ((f ∙ bonus-is) k) (as-many k) (words k))
+        ∙ credited-words (pool v) (totalBonus v) credited (credit v) (v .rows) (λ c m. row-known c m .credit)
+
+  -- scratch that holds the rows' words with their credits
+  module _ (ws : List ℕ) (n : ℕ) (rows : n ≡ headerOf file .rowCount) (words : ws ≡ rowWords (credit v) (v .rows)) where
+    -- word 7, summed over scratch, is the sum of the credits
+    pub credits-are : sumOfWord 7 n ws ≡ credits v
+    unfolding credits rowWords
+    credits-are = sum-is ws n rows (credit v) words 7 (omega arith)
+
+    -- so summing it does not wrap where the pool is not too large
+    pub credits-required : pool v ≤ mostCents → (length ws ≡ 8 * n) × ((7 < 8) × (sumOfWord 7 n ws < 2 ^ 64))
+    credits-required small = sum-required ws n rows (credit v) words 7 (credits v) (omega arith) credits-are (omega (arith, credits-le v, small))
 
   -- cents less than the pool by its credits are those carried on
   pub rest-is : (cents given : ℕ) → cents ≡ pool v → given ≡ credits v → cents - given ≡ carriedOn v
@@ -344,7 +315,7 @@ module _ (ledger file : List ℕ) (p : Passed ledger file) where
   -- the interval's words and the rows' make up the result
   pub result-written : (r y : List ℕ) (ratio charged given rest bonus upper lower count : ℕ) (ws : List ℕ) → ratio ≡ printedRatio (v .ratio) → charged ≡ charges v
       → given ≡ credits v → rest ≡ carriedOn v → bonus ≡ totalBonus v → upper ≡ numerator (headerOf file) (rowsOf file) → lower ≡ denominator (rowsOf file)
-      → count ≡ headerOf file .rowCount → ws ≡ rowWords v (v .rows)
+      → count ≡ headerOf file .rowCount → ws ≡ rowWords (credit v) (v .rows)
       → y ≡ written (ratio ∷ charged ∷ given ∷ rest ∷ bonus ∷ upper ∷ lower ∷ count ∷ ws) r → y ≡ written (resultWords v) r
   result-written r y ratio charged given rest bonus upper lower count ws a b c d e f g h w put =
       put ∙ ap (λ ws. written ws r) (result-is ratio charged given rest bonus upper lower count ws a b c d e f g h w)

@@ -9,7 +9,7 @@ use Rattle.reading.specs.Block.{mostIds, termsOutside, idsOutOfOrder}
 use Rattle.reading.specs.Interval.{headerBytes, rowBytes, pointBytes, mostRows, headerOf, rowsOf, headerOutside, rowOutside, pointsOutside}
 use Rattle.assessment.specs.Assessment.{ChargedRow, share}
 use Rattle.ledger.specs.Ledger.{ledgerOf, ledgerBytes, accountCount, idsIn, accountOutside}
-use Rattle.settling.specs.Settling.{rowIdsUnknown}
+use Rattle.settling.specs.Settling.{rowWords, rowIdsUnknown}
 
 -- what settling relies on of a ledger and a file that grounds 6 to 14 do not refuse
 pub record Passed (ledger file : List ℕ) : Type 0 where
@@ -28,10 +28,8 @@ pub record Passed (ledger file : List ℕ) : Type 0 where
   pub points : any (pointsOutside (headerOf file .pointCount)) (rowsOf file) ≡ false
 
 -- the rows' words before their credits are known: a credit of 0
-unfoldable pub chargedWords : List ChargedRow → List ℕ
-chargedWords [] = []
-chargedWords (c ∷ cs) =
-    c .figures .expected ∷ c .figures .actual ∷ c .figures .outage ∷ c .figures .economic ∷ c .figures .shortfall ∷ c .figures .bonus ∷ c .charge ∷ 0 ∷ chargedWords cs
+abbrev pub chargedWords : List ChargedRow → List ℕ
+chargedWords = rowWords (λ c. 0)
 
 -- the sum of word k over n rows
 unfoldable pub sumOfWord : ℕ → ℕ → List ℕ → ℕ

@@ -19,18 +19,18 @@ resultHeaderBytes = 64
 abbrev pub resultRowBytes : ℕ
 resultRowBytes = 64
 
--- a row's eight words in the result
-unfoldable pub rowWords : Assessed → List ChargedRow → List ℕ
-rowWords v [] = []
-rowWords v (c ∷ cs) =
-    c .figures .expected ∷ c .figures .actual ∷ c .figures .outage ∷ c .figures .economic ∷ c .figures .shortfall ∷ c .figures .bonus ∷ c .charge ∷ credit v c
-    ∷ rowWords v cs
+-- a row's eight words in the result, the last of them its credit
+unfoldable pub rowWords : (ChargedRow → ℕ) → List ChargedRow → List ℕ
+rowWords credited [] = []
+rowWords credited (c ∷ cs) =
+    c .figures .expected ∷ c .figures .actual ∷ c .figures .outage ∷ c .figures .economic ∷ c .figures .shortfall ∷ c .figures .bonus ∷ c .charge ∷ credited c
+    ∷ rowWords credited cs
 
 -- the words of a result: the interval's eight, then each row's eight in file order
 unfoldable pub resultWords : Assessed → List ℕ
 resultWords v =
     printedRatio (v .ratio) ∷ charges v ∷ credits v ∷ carriedOn v ∷ totalBonus v ∷ v .ratio .numerator ∷ v .ratio .denominator ∷ length (v .rows)
-    ∷ rowWords v (v .rows)
+    ∷ rowWords (credit v) (v .rows)
 
 -- the interval that a file makes of a ledger
 unfoldable pub assessedFile : List ℕ → List ℕ → Assessed

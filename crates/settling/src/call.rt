@@ -30,7 +30,7 @@ ghost use lib.ListN.{length, take, getD};
 ghost use Rattle.words.specs.Words.{written};
 ghost use Rattle.words.specs.Grounds.{answered};
 ghost use Rattle.reading.specs.Interval.{headerOf, rowsOf};
-ghost use Rattle.assessment.specs.Assessment.{numerator, denominator, charges, pool, carriedOn};
+ghost use Rattle.assessment.specs.Assessment.{numerator, denominator, charges, pool, credit, carriedOn};
 ghost use Rattle.ledger.specs.Ledger.{ledgerWords};
 ghost use Rattle.settling.specs.Settling.{assessedFile, rowWords, resultWords, settledLedger, settlingGrounds, settling as settlingOf};
 ghost use Rattle.settling.specs.Scratch.{Passed, chargedWords};
@@ -70,7 +70,7 @@ fn assess(ledger: &[u8], file: &[u8], rows: &mut [u64]) -> Charged
 // Writes the ledger after a file: word 3 its interval plus 1, word 4 the cents carried, and the accounts with its rows posted.
 fn write_ledger(ledger: &mut [u8], file: &[u8], rows: &[u64], rest: Cents)
     requires { ⌜ Passed (now ledger) (now file) ⌝ }
-    requires { ⌜ now rows ≡ rowWords (assessedFile (now ledger) (now file)) (assessedFile (now ledger) (now file) .rows) ⌝ }
+    requires { ⌜ now rows ≡ rowWords (credit (assessedFile (now ledger) (now file))) (assessedFile (now ledger) (now file) .rows) ⌝ }
     requires { ⌜ ((k : ℕ) → getD (now rows) k 0 ≤ 1099511627775) ⌝ }
     requires { ⌜ rest .0 ≡ carriedOn (assessedFile (now ledger) (now file)) ⌝ }
     ensures { λ _. ⌜ now (ledger .exit) ≡ written (ledgerWords (settledLedger (now (ledger .entry)) (now (file .entry)))) (now (ledger .entry)) ⌝ }

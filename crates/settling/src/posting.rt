@@ -28,7 +28,7 @@ ghost use lib.ListN.{length, drop, getD};
 ghost use lib.Dec.{ltb, eqb};
 ghost use Rattle.words.specs.Words.{written, writtenAt};
 ghost use Rattle.reading.specs.Interval.{headerOf, rowAt};
-ghost use Rattle.assessment.specs.Assessment.{raised as raisedBy};
+ghost use Rattle.assessment.specs.Assessment.{raised as raisedBy, credit};
 ghost use Rattle.ledger.specs.Ledger.{accountWords, ledgerOf};
 ghost use Rattle.settling.specs.Settling.{rowWords, assessedFile, postedAll};
 ghost use Rattle.settling.specs.Scratch.{Passed};
@@ -68,7 +68,7 @@ fn post_row(ledger: &mut [u8], at: usize, a: Account, row: &[u8], charge: Cents,
 // Posts every row to its account, and writes the other accounts as they were. Rows and accounts are walked side by side.
 pub fn post_rows(ledger: &mut [u8], file: &[u8], rows: &[u64])
     requires { ⌜ Passed (now ledger) (now file) ⌝ }
-    requires { ⌜ now rows ≡ rowWords (assessedFile (now ledger) (now file)) (assessedFile (now ledger) (now file) .rows) ⌝ }
+    requires { ⌜ now rows ≡ rowWords (credit (assessedFile (now ledger) (now file))) (assessedFile (now ledger) (now file) .rows) ⌝ }
     requires { ⌜ ((k : ℕ) → getD (now rows) k 0 ≤ 1099511627775) ⌝ }
     ensures { λ _.
         let v = assessedFile (now (ledger .entry)) (now (file .entry)) in

@@ -46,20 +46,12 @@ pub const ROW_13: Row = [13, 4, 0, 40000, 35000, 0, 0, 0, 40000, 0, 1, 3000, 4, 
 
 pub const ROW_14: Row = [14, 1, 5000, 0, 15001, 0, 0, 0, 0, 0, 0, 0, 0, 0];
 
-const POINTS: [u64; 12] = [
-    1000,
-    20000,
-    5000,
-    100000,
-    1000,
-    10000,
-    6000,
-    50000,
-    0,
-    0,
-    4000,
-    40000,
-];
+// The points of rows 11, 12 and 13; row 14 has none.
+pub const CURVE_11: [u64; 4] = [1000, 20000, 5000, 100000];
+
+pub const CURVE_12: [u64; 4] = [1000, 10000, 6000, 50000];
+
+pub const CURVE_13: [u64; 4] = [0, 0, 4000, 40000];
 
 pub fn block() -> [u8; 36]
     ensures { λ r. ⌜ r ≡ listingBlock ⌝ }
@@ -80,6 +72,8 @@ pub fn file(interval: u64) -> [u8; 312]
     put_words(&mut file, 96, &ROW_12);
     put_words(&mut file, 152, &ROW_13);
     put_words(&mut file, 208, &ROW_14);
-    put_words(&mut file, 264, &POINTS);
+    put_words(&mut file, 264, &CURVE_11);
+    put_words(&mut file, 280, &CURVE_12);
+    put_words(&mut file, 296, &CURVE_13);
     file
 }

@@ -14,6 +14,9 @@ use assessment::rules::share;
 use assessment::sums::Sides;
 use assessment::units::Cents;
 use assessment::units::Kilowatts;
+use shown::document::CURVE_11;
+use shown::document::CURVE_12;
+use shown::document::CURVE_13;
 use shown::document::ROW_11;
 use shown::document::ROW_12;
 use shown::document::ROW_13;
@@ -23,19 +26,12 @@ use shown::layout::Header;
 use shown::layout::Row;
 use shown::print::figure;
 
-const CURVE_A: [u64; 4] = [1000, 20000, 5000, 100000];
-
 // Prices of -300 and -293, in two's complement.
 const BELOW_ZERO: [u64; 4] = [0x1_0000_0000 - 300, 0, 0x1_0000_0000 - 293, 10];
 
 const PRD: [u64; 4] = [500, 0, 2000, 3000];
 
-// Points of the listing.
-const POINTS_12: [u64; 4] = [1000, 10000, 6000, 50000];
-
-const POINTS_13: [u64; 4] = [0, 0, 4000, 40000];
-
-// A row on curve A, with its limits.
+// A row on curve A, which is that of the listing's row 11, with its limits.
 fn on_a(online: u64, lmp: u64) -> Row {
     [11, 0, 0, 0, 0, 0, 0, 0, 110000, 20000, online, lmp, 0, 2]
 }
@@ -50,11 +46,11 @@ fn header(interval: u64) -> Header {
 }
 
 pub fn curves() {
-    show_scheduled(b"01 A online, LMP 999: ", on_a(1, 999), &CURVE_A);
-    show_scheduled(b"01 A online, LMP 3001: ", on_a(1, 3001), &CURVE_A);
-    show_scheduled(b"01 A online, LMP 5000: ", on_a(1, 5000), &CURVE_A);
-    show_scheduled(b"01 A online, LMP 5001: ", on_a(1, 5001), &CURVE_A);
-    show_scheduled(b"01 A offline, LMP 999: ", on_a(0, 999), &CURVE_A);
+    show_scheduled(b"01 A online, LMP 999: ", on_a(1, 999), &CURVE_11);
+    show_scheduled(b"01 A online, LMP 3001: ", on_a(1, 3001), &CURVE_11);
+    show_scheduled(b"01 A online, LMP 5000: ", on_a(1, 5000), &CURVE_11);
+    show_scheduled(b"01 A online, LMP 5001: ", on_a(1, 5001), &CURVE_11);
+    show_scheduled(b"01 A offline, LMP 999: ", on_a(0, 999), &CURVE_11);
     let below = [11, 0, 0, 0, 0, 0, 0, 0, 10, 0, 1, 0x1_0000_0000 - 299, 0, 2];
     show_scheduled(
         b"01 points (-300, 0), (-293, 10), LMP -299: ",
@@ -139,9 +135,9 @@ pub fn listing() {
     figure(b"01 listing, numerator: ", upper.0);
     figure(b"01 listing, denominator: ", lower.0);
     show_portion(b"01 listing, ratio in millionths: ", 1000000, upper, lower);
-    show_figures(b"01 listing, row 11: ", ROW_11, &CURVE_A, upper, lower);
-    show_figures(b"01 listing, row 12: ", ROW_12, &POINTS_12, upper, lower);
-    show_figures(b"01 listing, row 13: ", ROW_13, &POINTS_13, upper, lower);
-    show_figures(b"01 listing, row 14: ", ROW_14, &POINTS_13, upper, lower);
+    show_figures(b"01 listing, row 11: ", ROW_11, &CURVE_11, upper, lower);
+    show_figures(b"01 listing, row 12: ", ROW_12, &CURVE_12, upper, lower);
+    show_figures(b"01 listing, row 13: ", ROW_13, &CURVE_13, upper, lower);
+    show_figures(b"01 listing, row 14: ", ROW_14, &[], upper, lower);
     show_charge(b"01 listing, charge of row 12: ", 50000, 0, 18333);
 }

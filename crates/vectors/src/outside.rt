@@ -12,6 +12,7 @@ use crate::cases::show_share;
 use crate::cases::sides;
 use assessment::sums::Sides;
 use assessment::units::Kilowatts;
+use shown::document::CURVE_12;
 use shown::layout::Header;
 use shown::layout::Row;
 use shown::layout::put_words;
@@ -46,9 +47,7 @@ const SOLAR: Row = [1, 0, 5000, 5000, 0, 0, 0, 0, 0, 0, 0, 3000, 0, 1];
 
 const SOLAR_POINT: [u64; 2] = [0, 0];
 
-const CURVE: [u64; 4] = [1000, 10000, 6000, 50000];
-
-// A row on a curve from 1000 to 6000 cents.
+// A row on the curve of the listing's row 12, from 1000 to 6000 cents.
 fn on_curve(online: u64, lmp: u64) -> Row {
     [12, 0, 0, 0, 0, 0, 0, 0, 25000, 10000, online, lmp, 0, 2]
 }
@@ -136,17 +135,17 @@ pub fn curve_ends() {
     show_scheduled(
         b"summary, curve, online, LMP 999: ",
         on_curve(1, 999),
-        &CURVE,
+        &CURVE_12,
     );
     show_scheduled(
         b"summary, curve, offline, LMP 999: ",
         on_curve(0, 999),
-        &CURVE,
+        &CURVE_12,
     );
     show_scheduled(
         b"summary, curve, online, LMP 6001: ",
         on_curve(1, 6001),
-        &CURVE,
+        &CURVE_12,
     );
 }
 

@@ -168,7 +168,7 @@ module _ (ledger file result : List ℕ) (s : Accepted ledger file result) where
   -- writing the result's words keeps the length of the result buffer
   result-length : length (written (resultWords w) result) ≡ length result
   unfolding resultWords
-  result-length = length-written (resultWords w) result (omega (arith, length-row-words w (w .rows), rows-given, s .room))
+  result-length = length-written (resultWords w) result (omega (arith, length-row-words (credit w) (w .rows), rows-given, s .room))
 
   -- writing the words of the ledger after the file keeps the length of the ledger buffer
   ledger-length : length (written (ledgerWords (settledLedger ledger file)) ledger) ≡ length ledger

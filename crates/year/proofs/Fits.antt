@@ -17,7 +17,7 @@ use Rattle.assessment.proofs.Limits.{limit-le}
 use Rattle.assessment.proofs.Shares.{credits-le}
 use Rattle.ledger.specs.Ledger.{mostCents, Ledger}
 use Rattle.settling.specs.Settling.{rowWords, resultWords, postedAll}
-use Rattle.settling.proofs.SettledLaws.{row-words-below}
+use Rattle.settling.proofs.SettledLaws.{RowWithin, row-within, row-words-below}
 use Rattle.year.specs.Year.{GivenRow, sumOfPlant, largestOfPlant}
 use Rattle.ledger.proofs.Sound.{LedgerIn}
 use Rattle.year.proofs.LedgerBack.{Fits, AccountFits, LedgerFits}
@@ -81,23 +81,12 @@ module _ (l : Ledger) (h : Header) (rs : List Row) where
       (r, r-at, subst (λ c. givenOf made c ≡ g) (sym q) e)
 
   module _ (rows : (r : Row) → List·Memᴰ r rs → RowIn r) (small : pool made ≤ mostCents) where
-    -- a charged row of the interval
-    record ChargedIn (c : ChargedRow) : Type 0 where
-      pub figures : FiguresIn (c .figures)
-      pub charge : c .charge ≤ mostCents
-      pub credit : credit made c ≤ mostCents
-
     -- a charged row has its figures in range, and its charge and credit are at most the most cents
-    charged-in : (c : ChargedRow) → List·Memᴰ c (made .rows) → ChargedIn c
-    unfolding assessed chargedRow charges credits
+    charged-in : (c : ChargedRow) → List·Memᴰ c (made .rows) → RowWithin mostCents (credit made) c
+    unfolding assessed chargedRow
     charged-in c m =
         let (r, at, e) = Memᴰ·of-map (chargedRow (l .terms) (l .accounts) (ratioOf h rs)) rs m in
-        let own : FiguresIn (c .figures) = subst (λ c. FiguresIn (c .figures)) e (figures-in (ratioOf h rs) r (rows r at)) in
-        record {
-          figures = own;
-          charge = omega (arith, member-le (λ c. c .charge) m, pool-is, small);
-          credit = omega (arith, member-le (credit made) m, credits-le made, small);
-        }
+        row-within made mostCents small c m (subst (λ c. FiguresIn (c .figures)) e (figures-in (ratioOf h rs) r (rows r at)))
 
     -- what a row of the file is given fits 64 bits
     pub row-fits : (r : Row) → List·Memᴰ r rs → GivenFits (givenOf made (chargedRow (l .terms) (l .accounts) (ratioOf h rs) r))
@@ -147,24 +136,6 @@ module _ (l : Ledger) (h : Header) (rs : List Row) where
               subst AccountFits e (account-fits s a m (ids-fit a m));
         }
 
-    -- the words of charged rows within those bounds fit 64 bits
-    row-words-fit : (cs : List ChargedRow) → ((c : ChargedRow) → List·Memᴰ c cs → ChargedIn c) → Fits (rowWords made cs)
-    row-words-fit cs each =
-        row-words-below (2 ^ 64) made cs
-        (λ c m.
-        let i = each c m in
-        let f = i .figures in
-        record {
-          expected = omega (arith, f .expected);
-          actual = omega (arith, f .actual);
-          outage = omega (arith, f .outage);
-          economic = omega (arith, f .economic);
-          shortfall = omega (arith, f .shortfall);
-          bonus = omega (arith, f .bonus);
-          charge = omega (arith, i .charge);
-          credit = omega (arith, i .credit);
-        })
-
     -- the total bonus is at most twice the most kW for each charged row
     bonus-in : totalBonus made ≤ length (made .rows) * (2 * mostKilowatts)
     unfolding totalBonus
@@ -186,7 +157,7 @@ module _ (l : Ledger) (h : Header) (rs : List Row) where
     result-words-fit header few =
         let q = ratio-in header few in
         let many = mul-le-mul-right (2 * mostKilowatts) few in
-        let each = row-words-fit (made .rows) charged-in in
+        let each = row-words-below (2 ^ 64) mostCents (omega arith) (omega arith) (credit made) (made .rows) charged-in in
         let n = below-cons (length (made .rows)) _ (omega (arith, rows-as-many, few)) each in
         let ratio = below-cons (made .ratio .numerator) _ (q .0) (below-cons (made .ratio .denominator) _ (q .1) n) in
         let bonus = below-cons (totalBonus made) _ (omega (arith, rw rows-as-many at bonus-in, many)) ratio in

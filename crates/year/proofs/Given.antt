@@ -32,13 +32,13 @@ pub record GivenFits (g : GivenRow) : Type 0 where
 module _ (v : Assessed) (t : Terms) (accounts : List Account) (q : Ratio) where
   -- the rows given are read back from the bytes of their row words, where they fit
   rows-back : (rs : List Row) (rest : List ℕ) → ((r : Row) → List·Memᴰ r rs → GivenFits (givenOf v (chargedRow t accounts q r)))
-      → givenFrom rs (bytesOfWords 8 (rowWords v (map (chargedRow t accounts q) rs)) ++ rest) ≡ map (givenOf v) (map (chargedRow t accounts q) rs)
+      → givenFrom rs (bytesOfWords 8 (rowWords (credit v) (map (chargedRow t accounts q) rs)) ++ rest) ≡ map (givenOf v) (map (chargedRow t accounts q) rs)
   unfolding givenFrom givenOf rowWords bytesOfWords bytesOf word64 numberAt chargedRow
   rows-back [] rest fit = refl
   rows-back (r ∷ rs) rest fit =
       let f = fit r (List·Memᴰ·head refl) in
       let g = givenOf v (chargedRow t accounts q r) in
-      let ws = rowWords v (map (chargedRow t accounts q) rs) in
+      let ws = rowWords (credit v) (map (chargedRow t accounts q) rs) in
       λ i. record {
         id = r .id;
         committed = r .committed;
@@ -56,4 +56,4 @@ module _ (v : Assessed) (t : Terms) (accounts : List Account) (q : Ratio) where
   unfolding givenBy written resultWords bytesOfWords bytesOf
   given-back file result e fit =
       let rest = drop (8 * length (resultWords v)) result in
-      ap (λ cs. givenFrom (rowsOf file) (bytesOfWords 8 (rowWords v cs) ++ rest)) e ∙ rows-back (rowsOf file) rest fit ∙ ap (map (givenOf v)) (sym e)
+      ap (λ cs. givenFrom (rowsOf file) (bytesOfWords 8 (rowWords (credit v) cs) ++ rest)) e ∙ rows-back (rowsOf file) rest fit ∙ ap (map (givenOf v)) (sym e)

@@ -13,11 +13,11 @@ use Rattle.words.proofs.Lists.{sum-append, sum-map, found-member}
 use Rattle.reading.specs.Block.{blockOf}
 use Rattle.reading.specs.Interval.{Row, headerOf, rowsOf}
 use Rattle.reading.proofs.Bounds.{terms-in, length-ids, ids-rise}
-use Rattle.assessment.specs.Assessment.{Ratio, ratioOf, limit, accountOf, chargedRow, Assessed, assessed, pool, carriedOn}
+use Rattle.assessment.specs.Assessment.{Ratio, ratioOf, limit, emptyAccount, accountOf, chargedRow, Assessed, assessed, pool, carriedOn}
 use Rattle.assessment.proofs.Promises.{exclusive}
 use Rattle.assessment.proofs.Shares.{credits-le, carried-lt}
 use Rattle.ledger.specs.Ledger.{mostCents, Ledger, ledgerBytes, ledgerOf, ledgerWords, idsIn, notALedger}
-use Rattle.ledger.specs.Opening.{emptyAccount, openedLedger}
+use Rattle.ledger.specs.Opening.{openedLedger}
 use Rattle.settling.specs.Settling.{assessedFile, resultWords, postedAll, settledLedger, settling}
 use Rattle.year.specs.Year.{Call, GivenRow, givenBy, Year, newYear, sumOfPlant, largestOfPlant, accountByRows, rowsWithBonus}
 use Rattle.year.specs.Claims.{SumsHold}

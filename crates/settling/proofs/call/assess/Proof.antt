@@ -25,7 +25,7 @@ unfolding headerOf
 sum-words-requires c κs =
     let charged = c .before .before .before .before in
     let start = charged .before .before .before .before .before .before .before .before in
-    charges-required _ _ (start .pre .0) _ _ (c .word .ensures .0) (charged .charge-rows .ensures)
+    charges-required _ _ (start .pre .0) _ _ (c .word .ensures .0) _ (charged .charge-rows .ensures)
 
 same-length : tie.Need-same-length
 same-length c = search needs
@@ -37,7 +37,7 @@ returns c =
     let sides = charged .before .before .before .before in
     let start = sides .before .before .before .before in
     let words = charged .charge-rows .ensures in
-    let sum = c .sum-words .ensures ∙ charges-are _ _ (start .pre .0) _ _ (c .before .word .ensures .0) words in
+    let sum = c .sum-words .ensures ∙ charges-are _ _ (start .pre .0) _ _ (c .before .word .ensures .0) _ words in
     (words, (sides .ratio-sides .ensures .0, (sides .ratio-sides .ensures .1, sum)))
 
 pub assess-spec : {M : Type 1} → statement M

@@ -4,22 +4,22 @@ use mathlib.Core.Path.{_≡_, sym, _∙_, subst}
 use native.Mathlib.Omega.{arith}
 use lib.ListN.{getD}
 use Rattle.reading.specs.Interval.{headerOf}
-use Rattle.assessment.specs.Assessment.{credits}
+use Rattle.assessment.specs.Assessment.{credit, credits}
 use Rattle.settling.specs.Settling.{rowWords, assessedFile}
-use Rattle.settling.proofs.SettledLaws.{numerator-fits, each-word, bonus-is, bonus-required, credit-required, credited-is, credited-length, credits-are, credits-required, rest-is, given-le, printed-is, result-written}
+use Rattle.settling.proofs.SettledLaws.{numerator-fits, each-word, words-long, bonus-is, bonus-required, credit-required, credited-is, credits-are, credits-required, rest-is, given-le, printed-is, result-written}
 use borrow.Author.Needs.{needs}
 use Rattle.settling.proofs.call.write_settled.Statement.{statement}
 use Rattle.settling.proofs.call.write_settled.Tie as tie
 
 -- the rows' words once their credits are written
 with-credits : (c : tie.After-credit-rows)
-    → let start = c .before .before .before .before .before .before .before .before .before in let v = assessedFile (start .args .ledger .now) (start .args .file .now) in c .credit-rows .last .0 ≡ rowWords v (v .rows)
+    → let start = c .before .before .before .before .before .before .before .before .before in let v = assessedFile (start .args .ledger .now) (start .args .file .now) in c .credit-rows .last .0 ≡ rowWords (credit v) (v .rows)
 unfolding headerOf
 with-credits c =
     let sums = c .before .before in
     let word = sums .before .before in
     let pre = word .before .before .before .before .before .pre in
-    c .credit-rows .ensures ∙ credited-is _ _ (pre .0) _ _ (word .word .ensures .0) (pre .1 .1 .0) _ _ (pre .1 .1 .1 .1 .1 .1 .0) (sums .sum-words .ensures)
+    c .credit-rows .ensures ∙ credited-is _ _ (pre .0) _ _ (word .word .ensures .0) _ (pre .1 .1 .0) _ _ (pre .1 .1 .1 .1 .1 .1 .0) (sums .sum-words .ensures)
 
 -- the credits given
 given : (c : tie.After-sum-words2)
@@ -39,14 +39,14 @@ unfolding headerOf
 sum-words-requires c κs =
     let word = c .before in
     let pre = word .before .before .before .before .before .pre in
-    bonus-required _ _ (pre .0) _ _ (word .word .ensures .0) (pre .1 .1 .0)
+    bonus-required _ _ (pre .0) _ _ (word .word .ensures .0) _ (pre .1 .1 .0)
 
 credit-rows-requires : tie.Need-credit-rows-requires
 unfolding headerOf
 credit-rows-requires c κs =
     let word = c .before .before .before in
     let pre = word .before .before .before .before .before .pre in
-    credit-required _ _ (pre .0) _ _ (word .word .ensures .0) (pre .1 .1 .0) _ (pre .1 .1 .1 .1 .1 .1 .1)
+    credit-required _ _ (pre .0) _ _ (word .word .ensures .0) _ (pre .1 .1 .0) _ (pre .1 .1 .1 .1 .1 .1 .1)
 
 sum-words-requires-2 : tie.Need-sum-words-requires-2
 unfolding headerOf
@@ -74,7 +74,7 @@ write-result-requires c κs =
     let word = rows .before .before .before .before in
     let pre = word .before .before .before .before .before .pre in
     let n = word .word .ensures .0 in
-    omega (arith, pre .1 .0, n, credited-length _ _ (pre .0) _ _ n (with-credits rows))
+    omega (arith, pre .1 .0, n, words-long _ _ (pre .0) _ _ n _ (with-credits rows))
 
 write-ledger-requires : tie.Need-write-ledger-requires
 write-ledger-requires c κs =
@@ -109,7 +109,7 @@ returns c =
     let n = word .word .ensures .0 in
     let cents = pre .1 .1 .1 .1 .1 .1 .0 in
     let printed = printed-is _ _ p _ _ _ (pre .1 .1 .1 .0) (pre .1 .1 .1 .1 .0) (ratio .portion .ensures) in
-    let bonus = sums .sum-words .ensures ∙ bonus-is _ _ p _ _ n (pre .1 .1 .0) in
+    let bonus = sums .sum-words .ensures ∙ bonus-is _ _ p _ _ n _ (pre .1 .1 .0) in
     (c .before .before .write-ledger .ensures, result-written _ _ p _ _ _ _ _ _ _ _ _ _ _ printed (pre .1 .1 .1 .1 .1 .0) (given credited) (rest-is _ _ p _ _ cents (given credited)) bonus (pre .1 .1 .1 .0) (pre .1 .1 .1 .1 .0) n (with-credits rows) (put .write-result .ensures))
 
 pub write-settled-spec : {M : Type 1} → statement M

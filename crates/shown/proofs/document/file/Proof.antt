@@ -1,5 +1,6 @@
 -- `shown::document::file` meets its contract. Its words, written one table behind the other, are the listing's file.
 use mathlib.Core.Path.{ap, _∙_}
+use lib.ListN.{take, drop}
 use borrow.Author.Needs.{needs}
 use Rattle.words.specs.Words.{bytesOfWords, placedAt}
 use Rattle.settling.specs.Listing.{fileWith, row11, row12, row13, row14, listingPoints, listingFile}
@@ -61,21 +62,43 @@ slice-aggregate-put-words-12 c = search needs
 put-words-requires-6 : tie.Need-put-words-requires-6
 put-words-requires-6 c κs = search needs
 
+slice-aggregate-put-words-13 : tie.Need-slice-aggregate-put-words-13
+slice-aggregate-put-words-13 c = search needs
+
+slice-aggregate-put-words-14 : tie.Need-slice-aggregate-put-words-14
+slice-aggregate-put-words-14 c = search needs
+
+put-words-requires-7 : tie.Need-put-words-requires-7
+put-words-requires-7 c κs = search needs
+
+slice-aggregate-put-words-15 : tie.Need-slice-aggregate-put-words-15
+slice-aggregate-put-words-15 c = search needs
+
+slice-aggregate-put-words-16 : tie.Need-slice-aggregate-put-words-16
+slice-aggregate-put-words-16 c = search needs
+
+put-words-requires-8 : tie.Need-put-words-requires-8
+put-words-requires-8 c κs = search needs
+
 returns : tie.Need-returns
 unfolding placedAt fileWith row11 row12 row13 row14 listingPoints listingFile computing
 returns c =
-    let points = c .before in
-    let fourth = points .before .before .before .before in
+    let curve13 = c .before in
+    let curve12 = curve13 .before .before .before .before in
+    let curve11 = curve12 .before .before .before .before in
+    let fourth = curve11 .before .before .before .before in
     let third = fourth .before .before .before .before in
     let second = third .before .before .before .before in
     let first = second .before .before .before .before in
     let header = first .before .before .before .before in
-    points .put-words6 .ensures
-    ∙ ap (placedAt 264 (bytesOfWords 4 listingPoints)) (fourth .put-words5 .ensures
+    curve13 .put-words8 .ensures
+    ∙ ap (placedAt 296 (bytesOfWords 4 (drop 8 listingPoints))) (curve12 .put-words7 .ensures
+    ∙ ap (placedAt 280 (bytesOfWords 4 (take 4 (drop 4 listingPoints)))) (curve11 .put-words6 .ensures
+    ∙ ap (placedAt 264 (bytesOfWords 4 (take 4 listingPoints))) (fourth .put-words5 .ensures
     ∙ ap (placedAt 208 (bytesOfWords 4 row14)) (third .put-words4 .ensures
     ∙ ap (placedAt 152 (bytesOfWords 4 row13)) (second .put-words3 .ensures
     ∙ ap (placedAt 96 (bytesOfWords 4 row12)) (first .put-words2 .ensures
-    ∙ ap (placedAt 40 (bytesOfWords 4 row11)) (header .put-words .ensures)))))
+    ∙ ap (placedAt 40 (bytesOfWords 4 row11)) (header .put-words .ensures)))))))
 
 pub file-spec : {M : Type 1} → statement M
 file-spec =
@@ -99,4 +122,10 @@ file-spec =
     slice-aggregate-put-words-11
     slice-aggregate-put-words-12
     put-words-requires-6
+    slice-aggregate-put-words-13
+    slice-aggregate-put-words-14
+    put-words-requires-7
+    slice-aggregate-put-words-15
+    slice-aggregate-put-words-16
+    put-words-requires-8
     returns)
