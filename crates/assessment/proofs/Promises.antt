@@ -13,7 +13,7 @@ use lib.Dec.{ltb, eqb}
 use Rattle.words.proofs.Lists.{sum-most}
 use Rattle.reading.specs.Interval.{mostKilowatts, mostImports, mostRows, Header, Row, Kind, kindOf}
 use Rattle.reading.proofs.Bounds.{HeaderIn, RowIn}
-use Rattle.assessment.specs.Assessment.{orZero, actual, considered, ifConsidered, Ratio, portion, expectedAs, expected, bonusActualAs, bonus, numeratorShareAs, numeratorShare, importShare, numerator, denominatorShareAs, denominator, wholeRatio, printedRatio, outageAs, outage, economicRule, economicAs, economic, shortfall, RowFigures, rowFigures}
+use Rattle.assessment.specs.Assessment.{orZero, actual, considered, ifConsidered, Ratio, portion, expectedAs, expected, bonusActualAs, bonus, numeratorShareAs, numeratorShare, importShare, numerator, denominatorShareAs, denominatorShare, denominator, wholeRatio, printedRatio, outageAs, outage, economicRule, economicAs, economic, shortfall, RowFigures, rowFigures}
 use Rattle.assessment.proofs.KindLaws.{each-kind}
 
 -- a word that is given only if its row is considered is no larger
@@ -154,9 +154,9 @@ pub numerator-le : (h : Header) (rs : List Row) → HeaderIn h → length rs ≤
     → numerator h rs ≤ mostRows * (2 * mostKilowatts) + mostImports
 unfolding numerator numeratorShare
 numerator-le h rs i few rows =
-    let each : (r : Row) → List·Memᴰ r rs → ifConsidered r (numeratorShareAs (kindOf (r .kind)) r) ≤ 2 * mostKilowatts
+    let each : (r : Row) → List·Memᴰ r rs → numeratorShare r ≤ 2 * mostKilowatts
     = λ r m. omega (arith, if-le r (numeratorShareAs (kindOf (r .kind)) r), share-le (kindOf (r .kind)) r, actual-le r (rows r m)) in
-    let all = sum-most (λ r. ifConsidered r (numeratorShareAs (kindOf (r .kind)) r)) (2 * mostKilowatts) rs each in
+    let all = sum-most numeratorShare (2 * mostKilowatts) rs each in
     omega (arith, all, mul-le-mul-right (2 * mostKilowatts) few, imports-le h, i .imports)
 
 -- a row adds at most its committed kW to the denominator
@@ -166,8 +166,8 @@ denominator-share-le k r = each-kind (λ k. denominatorShareAs k r ≤ r .commit
 
 -- the denominator is at most the most kW for each of the most rows
 pub denominator-le : (rs : List Row) → length rs ≤ mostRows → ((r : Row) → List·Memᴰ r rs → RowIn r) → denominator rs ≤ mostRows * mostKilowatts
-unfolding denominator
+unfolding denominatorShare denominator
 denominator-le rs few rows =
-    let each : (r : Row) → List·Memᴰ r rs → denominatorShareAs (kindOf (r .kind)) r ≤ mostKilowatts
+    let each : (r : Row) → List·Memᴰ r rs → denominatorShare r ≤ mostKilowatts
     = λ r m. omega (arith, denominator-share-le (kindOf (r .kind)) r, rows r m .committed) in
-    omega (arith, sum-most (λ r. denominatorShareAs (kindOf (r .kind)) r) mostKilowatts rs each, mul-le-mul-right mostKilowatts few)
+    omega (arith, sum-most denominatorShare mostKilowatts rs each, mul-le-mul-right mostKilowatts few)

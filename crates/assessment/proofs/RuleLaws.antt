@@ -28,6 +28,7 @@ use Rattle.assessment.specs.Assessment.{
   numeratorShare,
   importShare,
   denominatorShareAs,
+  denominatorShare,
   outageAs,
   outage,
   economicRule,
@@ -174,15 +175,15 @@ module _ (r : Row) where
           rw (kind-none (r .kind) (omega arith))
 
   -- what a row adds to the denominator
-  pub denominator-generation : r .kind ≡ 0 → denominatorShareAs (kindOf (r .kind)) r ≡ r .committed
-  unfolding denominatorShareAs kindOf
+  pub denominator-generation : r .kind ≡ 0 → denominatorShare r ≡ r .committed
+  unfolding denominatorShareAs denominatorShare kindOf
   denominator-generation e = rw e
 
   -- any kind but 0 adds nothing to the denominator
-  pub denominator-other : (r .kind ≡ 0 → ⊥) → denominatorShareAs (kindOf (r .kind)) r ≡ 0
-  unfolding denominatorShareAs
+  pub denominator-other : (r .kind ≡ 0 → ⊥) → denominatorShare r ≡ 0
+  unfolding denominatorShareAs denominatorShare
   denominator-other some = by (decLe (r .kind) 3)
     where
-      by : Dec (r .kind ≤ 3) → denominatorShareAs (kindOf (r .kind)) r ≡ 0
+      by : Dec (r .kind ≤ 3) → denominatorShare r ≡ 0
       by (yes h) = kind-reducing (λ k. denominatorShareAs k r ≡ 0) refl refl refl (r .kind) some (omega arith)
       by (no h) = kind-high (λ k. denominatorShareAs k r ≡ 0) refl refl (r .kind) (omega arith)

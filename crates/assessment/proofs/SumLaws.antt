@@ -11,18 +11,14 @@ use borrow.Rule.Slice.PartAt.{part-to-end}
 use Rattle.words.specs.Words.{word32}
 use Rattle.words.proofs.Tests.{facts}
 use Rattle.reading.specs.Interval.{rowBytes, Row, kindOf, headerOf, rowAt, rowOf, pointsOutside}
-use Rattle.assessment.specs.Assessment.{denominatorShareAs}
+use Rattle.assessment.specs.Assessment.{denominatorShareAs, denominatorShare}
 use Rattle.assessment.proofs.KindLaws.{each-kind}
 use Rattle.reading.proofs.Walk.{part-at, rowPart}
 
--- what a row adds to the denominator
-abbrev pub lowerShare : Row → ℕ
-lowerShare r = denominatorShareAs (kindOf (r .kind)) r
-
--- it reads the committed kW alone, so not the points
-lower-without-points : (b p q : List ℕ) → lowerShare (rowAt b p) ≡ lowerShare (rowAt b q)
-unfolding denominatorShareAs rowAt
-lower-without-points b p q = each-kind (λ k. denominatorShareAs k (rowAt b p) ≡ denominatorShareAs k (rowAt b q)) refl refl refl refl refl refl (kindOf (word32 b 1))
+-- what a row adds to the denominator does not depend on its points
+denominator-without-points : (b p q : List ℕ) → denominatorShare (rowAt b p) ≡ denominatorShare (rowAt b q)
+unfolding denominatorShareAs denominatorShare rowAt
+denominator-without-points b p q = each-kind (λ k. denominatorShareAs k (rowAt b p) ≡ denominatorShareAs k (rowAt b q)) refl refl refl refl refl refl (kindOf (word32 b 1))
 
 module _ (f : List ℕ) where
   -- a part of the file to its end
@@ -59,6 +55,6 @@ module _ (f : List ℕ) where
       e ∙ ap (λ p. g (rowAt (partFrom at) p)) (part-to-end f curve) ∙ ap g same ∙ ap (λ b. g (rowOf f b)) (part-at f at (headerOf f .rowsOffset + rowBytes * i) place)
 
   -- the same of what a row adds to the denominator, computed without its points
-  pub lower-in-parts : (i at curve share : ℕ) → at ≡ headerOf f .rowsOffset + rowBytes * i
-      → rowAt (partFrom at) (drop curve f) ≡ rowOf f (partFrom at) → share ≡ lowerShare (rowAt (partFrom at) []) → share ≡ lowerShare (rowOf f (rowPart f i))
-  lower-in-parts i at curve share place same e = row-in-parts lowerShare i at curve share place same (e ∙ lower-without-points (partFrom at) [] (partFrom curve))
+  pub denominator-in-parts : (i at curve share : ℕ) → at ≡ headerOf f .rowsOffset + rowBytes * i
+      → rowAt (partFrom at) (drop curve f) ≡ rowOf f (partFrom at) → share ≡ denominatorShare (rowAt (partFrom at) []) → share ≡ denominatorShare (rowOf f (rowPart f i))
+  denominator-in-parts i at curve share place same e = row-in-parts denominatorShare i at curve share place same (e ∙ denominator-without-points (partFrom at) [] (partFrom curve))

@@ -158,9 +158,13 @@ denominatorShareAs responsive r = 0
 denominatorShareAs energyOnly r = 0
 denominatorShareAs noKind r = 0
 
+-- the same by the kind word
+unfoldable pub denominatorShare : Row → ℕ
+denominatorShare r = denominatorShareAs (kindOf (r .kind)) r
+
 -- Denominator
 unfoldable pub denominator : List Row → ℕ
-denominator rs = sum (λ r. denominatorShareAs (kindOf (r .kind)) r) rs
+denominator rs = sum denominatorShare rs
 
 -- numerator over denominator
 unfoldable pub ratioOf : Header → List Row → Ratio

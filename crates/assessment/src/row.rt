@@ -27,13 +27,18 @@ pub struct Figures {
 }
 
 // A row's figures at the ratio of two sums; all are 0 for a row that is not considered.
-pub fn row_figures(row: &[u8], points: &[u8], upper: Kilowatts, lower: Kilowatts) -> Figures
+pub fn row_figures(
+    row: &[u8],
+    points: &[u8],
+    numerator: Kilowatts,
+    denominator: Kilowatts,
+) -> Figures
     requires { ⌜ 56 ≤ length (now row) ⌝ }
     requires { ⌜ 8 * word32 (now row) 13 ≤ length (now points) ⌝ }
     requires { ⌜ rowAt (now row) [] .committed ≤ 4000000 ⌝ }
-    requires { ⌜ upper .0 ≤ 2 ^ 40 ⌝ }
+    requires { ⌜ numerator .0 ≤ 2 ^ 40 ⌝ }
     ensures { λ r.
-        let f = rowFigures (record { numerator = upper .0; denominator = lower .0 }) (rowAt (now (row .entry)) (now (points .entry))) in
+        let f = rowFigures (record { numerator = numerator .0; denominator = denominator .0 }) (rowAt (now (row .entry)) (now (points .entry))) in
         ⌜ (r .expected .0 ≡ f .expected) × (r .actual .0 ≡ f .actual) × (r .outage .0 ≡ f .outage) × (r .economic .0 ≡ f .economic) × (r .shortfall .0 ≡ f .shortfall) × (r .bonus .0 ≡ f .bonus) ⌝ }
 {
     if !considered(row, points) {
@@ -46,7 +51,7 @@ pub fn row_figures(row: &[u8], points: &[u8], upper: Kilowatts, lower: Kilowatts
             bonus: Kilowatts(0),
         };
     }
-    let expect = expected(row, upper, lower);
+    let expect = expected(row, numerator, denominator);
     let act = actual(row);
     let out = outage(row);
     let sched = scheduled(row, points);

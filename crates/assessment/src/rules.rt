@@ -22,12 +22,12 @@ ghost use lib.ListN.{length};
 ghost use lib.IntN.{_+ℤ_};
 ghost use lib.Signed.{mag};
 ghost use Rattle.words.specs.Words.{word32};
-ghost use Rattle.reading.specs.Interval.{headerOf, rowAt, kindOf};
+ghost use Rattle.reading.specs.Interval.{headerOf, rowAt};
 ghost use Rattle.assessment.specs.Assessment.{
   orZero,
   numeratorShare,
   importShare,
-  denominatorShareAs,
+  denominatorShare,
   actual as actualOf,
   scheduled as scheduledOf,
   portion as portionOf,
@@ -109,13 +109,13 @@ pub fn actual(row: &[u8]) -> Kilowatts
 }
 
 // A whole by the ratio of two figures, rounded down once, never above the whole, and 0 if there is no denominator.
-pub fn portion(whole: u64, upper: Kilowatts, lower: Kilowatts) -> u64
+pub fn portion(whole: u64, numerator: Kilowatts, denominator: Kilowatts) -> u64
     requires { ⌜ whole ≤ 4000000 ⌝ }
-    requires { ⌜ upper .0 ≤ 2 ^ 40 ⌝ }
-    ensures { λ r. ⌜ r ≡ portionOf (record { numerator = upper .0; denominator = lower .0 }) whole ⌝ }
+    requires { ⌜ numerator .0 ≤ 2 ^ 40 ⌝ }
+    ensures { λ r. ⌜ r ≡ portionOf (record { numerator = numerator .0; denominator = denominator .0 }) whole ⌝ }
 {
-    let n = upper.0;
-    let d = lower.0;
+    let n = numerator.0;
+    let d = denominator.0;
     if d == 0 {
         return 0;
     }
@@ -123,15 +123,15 @@ pub fn portion(whole: u64, upper: Kilowatts, lower: Kilowatts) -> u64
 }
 
 // Expected, by the kind word.
-pub fn expected(row: &[u8], upper: Kilowatts, lower: Kilowatts) -> Kilowatts
+pub fn expected(row: &[u8], numerator: Kilowatts, denominator: Kilowatts) -> Kilowatts
     requires { ⌜ 56 ≤ length (now row) ⌝ }
     requires { ⌜ rowAt (now row) [] .committed ≤ 4000000 ⌝ }
-    requires { ⌜ upper .0 ≤ 2 ^ 40 ⌝ }
-    ensures { λ r. ⌜ r .0 ≡ expectedOf (record { numerator = upper .0; denominator = lower .0 }) (rowAt (now (row .entry)) []) ⌝ }
+    requires { ⌜ numerator .0 ≤ 2 ^ 40 ⌝ }
+    ensures { λ r. ⌜ r .0 ≡ expectedOf (record { numerator = numerator .0; denominator = denominator .0 }) (rowAt (now (row .entry)) []) ⌝ }
 {
     let kind = word(row, KIND);
     match kind {
-        0 => Kilowatts(portion(word(row, COMMITTED), upper, lower)),
+        0 => Kilowatts(portion(word(row, COMMITTED), numerator, denominator)),
         1 | 2 | 3 => Kilowatts(word(row, COMMITTED)),
         _ => Kilowatts(0),
     }
@@ -302,7 +302,7 @@ pub fn numerator_share(row: &[u8], points: &[u8]) -> Kilowatts
 // What a row adds to the denominator, by the kind word.
 pub fn denominator_share(row: &[u8]) -> Kilowatts
     requires { ⌜ 56 ≤ length (now row) ⌝ }
-    ensures { λ r. ⌜ r .0 ≡ denominatorShareAs (kindOf (rowAt (now (row .entry)) [] .kind)) (rowAt (now (row .entry)) []) ⌝ }
+    ensures { λ r. ⌜ r .0 ≡ denominatorShare (rowAt (now (row .entry)) []) ⌝ }
     ensures { λ r. ⌜ r .0 < 2 ^ 32 ⌝ }
 {
     let kind = word(row, KIND);

@@ -17,38 +17,38 @@ ghost use Rattle.words.specs.Lists.{any};
 ghost use Rattle.reading.specs.Interval.{headerOf, rowsOf, pointsOutside};
 ghost use Rattle.assessment.specs.Assessment.{numerator, denominator};
 
-pub struct Sides {
-    pub upper: Kilowatts,
-    pub lower: Kilowatts,
+pub struct Ratio {
+    pub numerator: Kilowatts,
+    pub denominator: Kilowatts,
 }
 
 // Numerator and denominator, of a file that grounds 7, 11 and 14 do not refuse.
-pub fn ratio_sides(file: &[u8]) -> Sides
+pub fn ratio_sides(file: &[u8]) -> Ratio
     requires { ⌜ 40 ≤ length (now file) ⌝ }
     requires { ⌜ headerOf (now file) .rowCount ≤ 512 ⌝ }
     requires { ⌜ headerOf (now file) .rowsOffset + 56 * headerOf (now file) .rowCount ≤ length (now file) ⌝ }
     requires { ⌜ headerOf (now file) .pointsOffset + 8 * headerOf (now file) .pointCount ≤ length (now file) ⌝ }
     requires { ⌜ any (pointsOutside (headerOf (now file) .pointCount)) (rowsOf (now file)) ≡ false ⌝ }
-    ensures { λ r. ⌜ r .upper .0 ≡ numerator (headerOf (now (file .entry))) (rowsOf (now (file .entry))) ⌝ }
-    ensures { λ r. ⌜ r .lower .0 ≡ denominator (rowsOf (now (file .entry))) ⌝ }
+    ensures { λ r. ⌜ r .numerator .0 ≡ numerator (headerOf (now (file .entry))) (rowsOf (now (file .entry))) ⌝ }
+    ensures { λ r. ⌜ r .denominator .0 ≡ denominator (rowsOf (now (file .entry))) ⌝ }
 {
     let rows = word(file, ROWS) as usize;
     let first = word(file, ROWS_OFFSET) as usize;
-    let mut upper = 0;
-    let mut lower = 0;
+    let mut numerator = 0;
+    let mut denominator = 0;
     let mut i = 0;
     while i < rows {
         let row = first + ROW_BYTES * i;
         let curve = curve_at(file, &file[row..]);
         let more = numerator_share(&file[row..], &file[curve..]);
         let less = denominator_share(&file[row..]);
-        upper += more.0;
-        lower += less.0;
+        numerator += more.0;
+        denominator += less.0;
         i += 1;
     }
     let imports = import_share(file);
-    Sides {
-        upper: Kilowatts(upper + imports.0),
-        lower: Kilowatts(lower),
+    Ratio {
+        numerator: Kilowatts(numerator + imports.0),
+        denominator: Kilowatts(denominator),
     }
 }

@@ -256,8 +256,8 @@ module _ {ledger file : List ℕ} {q : Ratio} {cone days count first : ℕ} wher
       row-same = ap (rowAt part) (part-to-end file curve) ∙ same ∙ ap (rowOf file) (part-to-end file start ∙ ap (λ k. drop k file) place)
 
       -- what the code of a row's figures asks: bytes of the row and its points, committed kW and numerator bounded
-      pub figures-asks : {upper : ℕ} → curve + 8 * word32 part 13 ≤ length file → upper ≤ 2 ^ 40
-          → (56 ≤ length part) × ((8 * word32 part 13 ≤ length (partFrom file curve)) × ((rowAt part [] .committed ≤ 4000000) × (upper ≤ 2 ^ 40)))
+      pub figures-asks : {above : ℕ} → curve + 8 * word32 part 13 ≤ length file → above ≤ 2 ^ 40
+          → (56 ≤ length part) × ((8 * word32 part 13 ≤ length (partFrom file curve)) × ((rowAt part [] .committed ≤ 4000000) × (above ≤ 2 ^ 40)))
       figures-asks lies few = (row-holds, (omega (arith, part-length file curve, lies), (committed-in, few)))
 
       -- the figures of the row in two parts of the file, and its account as it is read

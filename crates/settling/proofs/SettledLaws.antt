@@ -208,11 +208,11 @@ module _ (ledger file : List ℕ) (p : Passed ledger file) where
       omega (arith, below-at (rowWords (credit v) (v .rows)) k (omega arith) below)
 
   -- the result's words
-  pub result-is : (ratio charged given rest bonus upper lower count : ℕ) (ws : List ℕ) → ratio ≡ printedRatio (v .ratio) → charged ≡ charges v → given ≡ credits v → rest ≡ carriedOn v → bonus ≡ totalBonus v
-      → upper ≡ numerator (headerOf file) (rowsOf file) → lower ≡ denominator (rowsOf file) → count ≡ headerOf file .rowCount → ws ≡ rowWords (credit v) (v .rows)
-      → ratio ∷ charged ∷ given ∷ rest ∷ bonus ∷ upper ∷ lower ∷ count ∷ ws ≡ resultWords v
+  pub result-is : (ratio charged given rest bonus above below count : ℕ) (ws : List ℕ) → ratio ≡ printedRatio (v .ratio) → charged ≡ charges v → given ≡ credits v → rest ≡ carriedOn v → bonus ≡ totalBonus v
+      → above ≡ numerator (headerOf file) (rowsOf file) → below ≡ denominator (rowsOf file) → count ≡ headerOf file .rowCount → ws ≡ rowWords (credit v) (v .rows)
+      → ratio ∷ charged ∷ given ∷ rest ∷ bonus ∷ above ∷ below ∷ count ∷ ws ≡ resultWords v
   unfolding resultWords
-  result-is ratio charged given rest bonus upper lower count ws a b c d e f g h w =
+  result-is ratio charged given rest bonus above below count ws a b c d e f g h w =
       λ k. a k ∷ b k ∷ c k ∷ d k ∷ e k ∷ (f ∙ ap (λ q. q .numerator) (sym ratio-is)) k ∷ (g ∙ ap (λ q. q .denominator) (sym ratio-is)) k ∷ (h ∙ sym (count-is ledger file)) k ∷ w k
 
   -- the ledger's words
@@ -292,10 +292,10 @@ module _ (ledger file : List ℕ) (p : Passed ledger file) where
   given-le cents given e f = omega (arith, e, f, credits-le v)
 
   -- the ratio that is printed
-  pub printed-is : (ratio upper lower : ℕ) → upper ≡ numerator (headerOf file) (rowsOf file) → lower ≡ denominator (rowsOf file)
-      → ratio ≡ portion (record { numerator = upper; denominator = lower }) 1000000 → ratio ≡ printedRatio (v .ratio)
+  pub printed-is : (ratio above below : ℕ) → above ≡ numerator (headerOf file) (rowsOf file) → below ≡ denominator (rowsOf file)
+      → ratio ≡ portion (record { numerator = above; denominator = below }) 1000000 → ratio ≡ printedRatio (v .ratio)
   unfolding printedRatio
-  printed-is ratio upper lower e f g = g ∙ (λ k. portion (record { numerator = e k; denominator = f k }) 1000000) ∙ ap (λ q. portion q 1000000) (sym ratio-is)
+  printed-is ratio above below e f g = g ∙ (λ k. portion (record { numerator = e k; denominator = f k }) 1000000) ∙ ap (λ q. portion q 1000000) (sym ratio-is)
 
   -- the pool
   pub pool-of : (carried charged : ℕ) → carried ≡ ledgerOf ledger .carried → charged ≡ charges v → carried + charged ≡ pool v
@@ -313,9 +313,9 @@ module _ (ledger file : List ℕ) (p : Passed ledger file) where
       header ∙ ap (written words) posts ∙ write-front words accounts ledger room ∙ ap (λ ws. written ws ledger) (ledger-is cone days next rest count a b c d e)
 
   -- the interval's words and the rows' make up the result
-  pub result-written : (r y : List ℕ) (ratio charged given rest bonus upper lower count : ℕ) (ws : List ℕ) → ratio ≡ printedRatio (v .ratio) → charged ≡ charges v
-      → given ≡ credits v → rest ≡ carriedOn v → bonus ≡ totalBonus v → upper ≡ numerator (headerOf file) (rowsOf file) → lower ≡ denominator (rowsOf file)
+  pub result-written : (r y : List ℕ) (ratio charged given rest bonus above below count : ℕ) (ws : List ℕ) → ratio ≡ printedRatio (v .ratio) → charged ≡ charges v
+      → given ≡ credits v → rest ≡ carriedOn v → bonus ≡ totalBonus v → above ≡ numerator (headerOf file) (rowsOf file) → below ≡ denominator (rowsOf file)
       → count ≡ headerOf file .rowCount → ws ≡ rowWords (credit v) (v .rows)
-      → y ≡ written (ratio ∷ charged ∷ given ∷ rest ∷ bonus ∷ upper ∷ lower ∷ count ∷ ws) r → y ≡ written (resultWords v) r
-  result-written r y ratio charged given rest bonus upper lower count ws a b c d e f g h w put =
-      put ∙ ap (λ ws. written ws r) (result-is ratio charged given rest bonus upper lower count ws a b c d e f g h w)
+      → y ≡ written (ratio ∷ charged ∷ given ∷ rest ∷ bonus ∷ above ∷ below ∷ count ∷ ws) r → y ≡ written (resultWords v) r
+  result-written r y ratio charged given rest bonus above below count ws a b c d e f g h w put =
+      put ∙ ap (λ ws. written ws r) (result-is ratio charged given rest bonus above below count ws a b c d e f g h w)

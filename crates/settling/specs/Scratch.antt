@@ -1,7 +1,7 @@
 -- What the code of settling relies on and keeps while it works: what grounds 6 to 14 leave, and the rows' words in scratch, eight a row as the result has them.
 use Prim.Native.Nat.{ℕ, zero, suc, _+_, _*_, _≤_}
 use mathlib.Core.Path.{_≡_}
-use mathlib.Core.List.{List, [], _∷_, _++_}
+use mathlib.Core.List.{List, _∷_, _++_}
 use mathlib.Core.Bool.{false}
 use lib.ListN.{length, take, drop, getD}
 use Rattle.words.specs.Lists.{any}

@@ -41,8 +41,8 @@ const MILLIONTHS: u64 = 1000000;
 const SCRATCH: usize = 4096;
 
 pub struct Charged {
-    pub upper: Kilowatts,
-    pub lower: Kilowatts,
+    pub numerator: Kilowatts,
+    pub denominator: Kilowatts,
     pub charges: Cents,
 }
 
@@ -51,18 +51,18 @@ fn assess(ledger: &[u8], file: &[u8], rows: &mut [u64]) -> Charged
     requires { ⌜ Passed (now ledger) (now file) ⌝ }
     requires { ⌜ length (now rows) ≡ 8 * headerOf (now file) .rowCount ⌝ }
     ensures { λ _. ⌜ now (rows .exit) ≡ chargedWords (assessedFile (now (ledger .entry)) (now (file .entry)) .rows) ⌝ }
-    ensures { λ r. ⌜ r .upper .0 ≡ numerator (headerOf (now (file .entry))) (rowsOf (now (file .entry))) ⌝ }
-    ensures { λ r. ⌜ r .lower .0 ≡ denominator (rowsOf (now (file .entry))) ⌝ }
+    ensures { λ r. ⌜ r .numerator .0 ≡ numerator (headerOf (now (file .entry))) (rowsOf (now (file .entry))) ⌝ }
+    ensures { λ r. ⌜ r .denominator .0 ≡ denominator (rowsOf (now (file .entry))) ⌝ }
     ensures { λ r. ⌜ r .charges .0 ≡ charges (assessedFile (now (ledger .entry)) (now (file .entry))) ⌝ }
 {
     let sides = ratio_sides(file);
-    let upper = sides.upper;
-    let lower = sides.lower;
-    charge_rows(ledger, file, upper, lower, rows);
+    let numerator = sides.numerator;
+    let denominator = sides.denominator;
+    charge_rows(ledger, file, numerator, denominator, rows);
     let charges = Cents(sum_words(rows, word(file, ROWS) as usize, CHARGE));
     Charged {
-        upper,
-        lower,
+        numerator,
+        denominator,
         charges,
     }
 }
@@ -95,8 +95,8 @@ fn write_settled(
     requires { ⌜ Passed (now ledger) (now file) ⌝ }
     requires { ⌜ 64 + 64 * headerOf (now file) .rowCount ≤ length (now result) ⌝ }
     requires { ⌜ now rows ≡ chargedWords (assessedFile (now ledger) (now file) .rows) ⌝ }
-    requires { ⌜ sums .upper .0 ≡ numerator (headerOf (now file)) (rowsOf (now file)) ⌝ }
-    requires { ⌜ sums .lower .0 ≡ denominator (rowsOf (now file)) ⌝ }
+    requires { ⌜ sums .numerator .0 ≡ numerator (headerOf (now file)) (rowsOf (now file)) ⌝ }
+    requires { ⌜ sums .denominator .0 ≡ denominator (rowsOf (now file)) ⌝ }
     requires { ⌜ sums .charges .0 ≡ charges (assessedFile (now ledger) (now file)) ⌝ }
     requires { ⌜ cents .0 ≡ pool (assessedFile (now ledger) (now file)) ⌝ }
     requires { ⌜ cents .0 ≤ 1099511627775 ⌝ }
@@ -108,7 +108,7 @@ fn write_settled(
     credit_rows(rows, count as usize, cents, bonus);
     let credits = Cents(sum_words(rows, count as usize, CREDIT));
     let rest = Cents(cents.0 - credits.0);
-    let ratio = portion(MILLIONTHS, sums.upper, sums.lower);
+    let ratio = portion(MILLIONTHS, sums.numerator, sums.denominator);
     write_result(
         result,
         rows,
@@ -117,8 +117,8 @@ fn write_settled(
         credits,
         rest,
         bonus,
-        sums.upper,
-        sums.lower,
+        sums.numerator,
+        sums.denominator,
         count,
     );
     write_ledger(ledger, file, rows, rest);

@@ -23,7 +23,7 @@ ghost use mathlib.Core.List.{[]};
 ghost use Prim.Native.Nat.{_*_, _≤_, _^_};
 ghost use lib.ListN.{length};
 ghost use Rattle.reading.specs.Interval.{headerOf, rowAt, rowsOf};
-ghost use Rattle.assessment.specs.Assessment.{numerator, denominator, raised as raisedBy, charge as chargeOf};
+ghost use Rattle.assessment.specs.Assessment.{numerator as numeratorOf, denominator as denominatorOf, raised as raisedBy, charge as chargeOf};
 ghost use Rattle.settling.specs.Settling.{assessedFile};
 ghost use Rattle.settling.specs.Scratch.{Passed, chargedWords};
 
@@ -42,11 +42,17 @@ fn row_charge(cone: u64, days: u64, a: Account, row: &[u8], short: Kilowatts) ->
 }
 
 // Writes the words of every row, with its charge to its account. Rows and accounts rise by id, and are walked side by side.
-pub fn charge_rows(ledger: &[u8], file: &[u8], upper: Kilowatts, lower: Kilowatts, rows: &mut [u64])
+pub fn charge_rows(
+    ledger: &[u8],
+    file: &[u8],
+    numerator: Kilowatts,
+    denominator: Kilowatts,
+    rows: &mut [u64],
+)
     requires { ⌜ Passed (now ledger) (now file) ⌝ }
-    requires { ⌜ upper .0 ≡ numerator (headerOf (now file)) (rowsOf (now file)) ⌝ }
-    requires { ⌜ upper .0 ≤ 2 ^ 40 ⌝ }
-    requires { ⌜ lower .0 ≡ denominator (rowsOf (now file)) ⌝ }
+    requires { ⌜ numerator .0 ≡ numeratorOf (headerOf (now file)) (rowsOf (now file)) ⌝ }
+    requires { ⌜ numerator .0 ≤ 2 ^ 40 ⌝ }
+    requires { ⌜ denominator .0 ≡ denominatorOf (rowsOf (now file)) ⌝ }
     requires { ⌜ length (now rows) ≡ 8 * headerOf (now file) .rowCount ⌝ }
     ensures { λ _. ⌜ now (rows .exit) ≡ chargedWords (assessedFile (now (ledger .entry)) (now (file .entry)) .rows) ⌝ }
 {
@@ -61,7 +67,7 @@ pub fn charge_rows(ledger: &[u8], file: &[u8], upper: Kilowatts, lower: Kilowatt
         let row = first + ROW_BYTES * i;
         if word(&file[row..], ID) == a.id {
             let curve = curve_at(file, &file[row..]);
-            let figures = row_figures(&file[row..], &file[curve..], upper, lower);
+            let figures = row_figures(&file[row..], &file[curve..], numerator, denominator);
             let cents = row_charge(cone, days, a, &file[row..], figures.shortfall);
             put_row(rows, ROW_WORDS * i, figures, cents);
             i += 1;

@@ -107,20 +107,20 @@ pub fn write_result(
     credits: Cents,
     carried: Cents,
     bonus: Kilowatts,
-    upper: Kilowatts,
-    lower: Kilowatts,
+    numerator: Kilowatts,
+    denominator: Kilowatts,
     count: u64,
 )
     requires { ⌜ 64 + 8 * length (now rows) ≤ length (now result) ⌝ }
-    ensures { λ _. ⌜ now (result .exit) ≡ written (ratio ∷ charges .0 ∷ credits .0 ∷ carried .0 ∷ bonus .0 ∷ upper .0 ∷ lower .0 ∷ count ∷ now (rows .entry)) (now (result .entry)) ⌝ }
+    ensures { λ _. ⌜ now (result .exit) ≡ written (ratio ∷ charges .0 ∷ credits .0 ∷ carried .0 ∷ bonus .0 ∷ numerator .0 ∷ denominator .0 ∷ count ∷ now (rows .entry)) (now (result .entry)) ⌝ }
 {
     put64(result, 0, ratio);
     put64(result, 8, charges.0);
     put64(result, 16, credits.0);
     put64(result, 24, carried.0);
     put64(result, 32, bonus.0);
-    put64(result, 40, upper.0);
-    put64(result, 48, lower.0);
+    put64(result, 40, numerator.0);
+    put64(result, 48, denominator.0);
     put64(result, 56, count);
     store_words(rows, &mut result[64..]);
 }

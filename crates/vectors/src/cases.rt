@@ -10,7 +10,7 @@ use assessment::rules::full_charge;
 use assessment::rules::limit;
 use assessment::rules::portion;
 use assessment::rules::share;
-use assessment::sums::Sides;
+use assessment::sums::Ratio;
 use assessment::sums::ratio_sides;
 use assessment::units::Cents;
 use assessment::units::Kilowatts;
@@ -33,7 +33,7 @@ ghost use Prim.Native.Nat.{_≤_};
 ghost use lib.ListN.{length};
 
 // Any numerator is below it.
-const MOST_UPPER: u64 = 1099511627776;
+const MOST_NUMERATOR: u64 = 1099511627776;
 
 // What is printed of a case that the code does not take.
 const NOT_TAKEN: u64 = 18446744073709551615;
@@ -70,7 +70,7 @@ fn not_taken() -> Figures {
     }
 }
 
-fn figures_of(case: &[u8], upper: Kilowatts, lower: Kilowatts) -> Figures
+fn figures_of(case: &[u8], numerator: Kilowatts, denominator: Kilowatts) -> Figures
     requires { ⌜ 56 ≤ length (now case) ⌝ }
 {
     let points = (case.len() - ROW_BYTES) as u64;
@@ -80,17 +80,17 @@ fn figures_of(case: &[u8], upper: Kilowatts, lower: Kilowatts) -> Figures
     if MOST_KILOWATTS < word(case, COMMITTED) {
         return not_taken();
     }
-    if MOST_UPPER < upper.0 {
+    if MOST_NUMERATOR < numerator.0 {
         return not_taken();
     }
-    row_figures(case, &case[ROW_BYTES..], upper, lower)
+    row_figures(case, &case[ROW_BYTES..], numerator, denominator)
 }
 
 // The two sides of a file's ratio; none where a ground refuses the file.
-pub fn sides(file: &[u8]) -> Sides {
-    let none = Sides {
-        upper: Kilowatts(0),
-        lower: Kilowatts(0),
+pub fn sides(file: &[u8]) -> Ratio {
+    let none = Ratio {
+        numerator: Kilowatts(0),
+        denominator: Kilowatts(0),
     };
     if not_a_file(file) {
         return none;
@@ -127,14 +127,20 @@ pub fn show_considered(label: &[u8], row: Row, points: &[u64])
 }
 
 // Prints the six figures of a row at a ratio.
-pub fn show_figures(label: &[u8], row: Row, points: &[u64], upper: Kilowatts, lower: Kilowatts)
+pub fn show_figures(
+    label: &[u8],
+    row: Row,
+    points: &[u64],
+    numerator: Kilowatts,
+    denominator: Kilowatts,
+)
     requires { ⌜ length (now label) ≤ 64 ⌝ }
     requires { ⌜ length (now points) ≤ 20 ⌝ }
 {
     let mut case = [0u8; 136];
     put_words(&mut case, 0, &row);
     put_words(&mut case, ROW_BYTES, points);
-    six(label, figures_of(&case, upper, lower));
+    six(label, figures_of(&case, numerator, denominator));
 }
 
 // Prints whether ground 13 applies to a row.
@@ -204,13 +210,13 @@ pub fn show_share(label: &[u8], pool: u64, total: u64, bonus: u64)
 }
 
 // Prints a whole by a ratio.
-pub fn show_portion(label: &[u8], whole: u64, upper: Kilowatts, lower: Kilowatts)
+pub fn show_portion(label: &[u8], whole: u64, numerator: Kilowatts, denominator: Kilowatts)
     requires { ⌜ length (now label) ≤ 64 ⌝ }
     requires { ⌜ whole ≤ 4000000 ⌝ }
 {
-    if MOST_UPPER < upper.0 {
+    if MOST_NUMERATOR < numerator.0 {
         figure(label, NOT_TAKEN);
         return;
     }
-    figure(label, portion(whole, upper, lower));
+    figure(label, portion(whole, numerator, denominator));
 }

@@ -11,7 +11,7 @@ use crate::cases::show_scheduled;
 use crate::cases::show_share;
 use crate::cases::sides;
 use assessment::rules::share;
-use assessment::sums::Sides;
+use assessment::sums::Ratio;
 use assessment::units::Cents;
 use assessment::units::Kilowatts;
 use shown::document::CURVE_11;
@@ -88,13 +88,13 @@ fn carried() -> u64 {
 }
 
 pub fn shares() {
-    let upper = Kilowatts(130001);
-    let lower = Kilowatts(150000);
+    let numerator = Kilowatts(130001);
+    let denominator = Kilowatts(150000);
     show_portion(
         b"01 expected of 100000, 130001 over 150000: ",
         100000,
-        upper,
-        lower,
+        numerator,
+        denominator,
     );
     show_share(
         b"01 pool 557628, credit of bonus 30000: ",
@@ -123,21 +123,44 @@ pub fn intervals() {
 }
 
 // The sides of the ratio in the listing's file.
-fn listing_sides() -> Sides {
+fn listing_sides() -> Ratio {
     let listing = file(1000);
     sides(&listing)
 }
 
 pub fn listing() {
     let both = listing_sides();
-    let upper = both.upper;
-    let lower = both.lower;
-    figure(b"01 listing, numerator: ", upper.0);
-    figure(b"01 listing, denominator: ", lower.0);
-    show_portion(b"01 listing, ratio in millionths: ", 1000000, upper, lower);
-    show_figures(b"01 listing, row 11: ", ROW_11, &CURVE_11, upper, lower);
-    show_figures(b"01 listing, row 12: ", ROW_12, &CURVE_12, upper, lower);
-    show_figures(b"01 listing, row 13: ", ROW_13, &CURVE_13, upper, lower);
-    show_figures(b"01 listing, row 14: ", ROW_14, &[], upper, lower);
+    let numerator = both.numerator;
+    let denominator = both.denominator;
+    figure(b"01 listing, numerator: ", numerator.0);
+    figure(b"01 listing, denominator: ", denominator.0);
+    show_portion(
+        b"01 listing, ratio in millionths: ",
+        1000000,
+        numerator,
+        denominator,
+    );
+    show_figures(
+        b"01 listing, row 11: ",
+        ROW_11,
+        &CURVE_11,
+        numerator,
+        denominator,
+    );
+    show_figures(
+        b"01 listing, row 12: ",
+        ROW_12,
+        &CURVE_12,
+        numerator,
+        denominator,
+    );
+    show_figures(
+        b"01 listing, row 13: ",
+        ROW_13,
+        &CURVE_13,
+        numerator,
+        denominator,
+    );
+    show_figures(b"01 listing, row 14: ", ROW_14, &[], numerator, denominator);
     show_charge(b"01 listing, charge of row 12: ", 50000, 0, 18333);
 }

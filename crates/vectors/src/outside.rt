@@ -10,7 +10,7 @@ use crate::cases::show_row_outside;
 use crate::cases::show_scheduled;
 use crate::cases::show_share;
 use crate::cases::sides;
-use assessment::sums::Sides;
+use assessment::sums::Ratio;
 use assessment::units::Kilowatts;
 use shown::document::CURVE_12;
 use shown::layout::Header;
@@ -93,7 +93,7 @@ pub fn limits() {
     show_limit(b"10A(f), SWMAAC, limit of 1000 kW: ", 21475, 366, 1000);
 }
 
-fn economic_sides() -> Sides {
+fn economic_sides() -> Ratio {
     let mut file = [0u8; 176];
     let head = [1, 0, 30000, 365, 0, 0, 2, 40, 3, 152];
     put_words(&mut file, 0, &head);
@@ -106,20 +106,20 @@ fn economic_sides() -> Sides {
 
 pub fn rows() {
     let both = economic_sides();
-    let upper = both.upper;
-    let lower = both.lower;
+    let numerator = both.numerator;
+    let denominator = both.denominator;
     show_portion(
         b"summary, economic row's ratio in millionths: ",
         1000000,
-        upper,
-        lower,
+        numerator,
+        denominator,
     );
     show_figures(
         b"summary, economic row: ",
         ECONOMIC,
         &ECONOMIC_POINTS,
-        upper,
-        lower,
+        numerator,
+        denominator,
     );
     show_figures(
         b"summary, solar row: ",

@@ -8,7 +8,7 @@ use native.Mathlib.Omega.{arith}
 use lib.ListN.{length, length-map}
 use lib.Dec.{eqb}
 use Rattle.words.specs.Lists.{sum}
-use Rattle.words.proofs.Lists.{member-le, sum-le, sum-map, sum-most, below-cons}
+use Rattle.words.proofs.Lists.{sum-le, sum-map, sum-most, below-cons}
 use Rattle.reading.specs.Interval.{mostKilowatts, mostRows, Header, Row}
 use Rattle.reading.proofs.Bounds.{terms-in, HeaderIn, RowIn}
 use Rattle.assessment.specs.Assessment.{ratioOf, numerator, denominator, printedRatio, Account, ChargedRow, chargedRow, Assessed, assessed, charges, totalBonus, pool, credit, credits, carriedOn}
@@ -16,7 +16,7 @@ use Rattle.assessment.proofs.Promises.{FiguresIn, figures-in, printed-le, numer
 use Rattle.assessment.proofs.Limits.{limit-le}
 use Rattle.assessment.proofs.Shares.{credits-le}
 use Rattle.ledger.specs.Ledger.{mostCents, Ledger}
-use Rattle.settling.specs.Settling.{rowWords, resultWords, postedAll}
+use Rattle.settling.specs.Settling.{resultWords, postedAll}
 use Rattle.settling.proofs.SettledLaws.{RowWithin, row-within, row-words-below}
 use Rattle.year.specs.Year.{GivenRow, sumOfPlant, largestOfPlant}
 use Rattle.ledger.proofs.Sound.{LedgerIn}

@@ -59,7 +59,7 @@ returns-2 c =
     let act = out .before in
     let expect = act .before in
     let start = expect .before .before .before .before .before in
-    let q : Ratio = record { numerator = start .args .upper .0; denominator = start .args .lower .0 } in
+    let q : Ratio = record { numerator = start .args .numerator .0; denominator = start .args .denominator .0 } in
     let r = rowAt (start .args .row .now) (start .args .points .now) in
     let on : considered r ≡ true = sym (expect .before .before .considered .ensures) ∙ not-false (expect .before .before .considered .result) (expect .before .if1 .left) in
     let e = expect .expected .ensures ∙ expected-points q _ _ _ in (

@@ -8,22 +8,22 @@ use Rattle.words.specs.Lists.{sum, any}
 use Rattle.words.proofs.Lists.{sum-start, sum-turn, sum-end, none-start, none-turn}
 use Rattle.reading.specs.Interval.{headerOf, rowsOf}
 use Rattle.reading.proofs.Walk.{rowsLeft, rows-start, rows-turn, rows-end}
-use Rattle.assessment.specs.Assessment.{numeratorShare, numerator, denominator}
-use Rattle.assessment.proofs.SumLaws.{lowerShare, part-length, curve-within, lower-in-parts, fails, row-in-parts}
+use Rattle.assessment.specs.Assessment.{numeratorShare, numerator, denominatorShare, denominator}
+use Rattle.assessment.proofs.SumLaws.{part-length, curve-within, denominator-in-parts, fails, row-in-parts}
 use Rattle.assessment.proofs.sums.ratio_sides.Statement.{statement}
 use Rattle.assessment.proofs.sums.ratio_sides.Tie as tie
 
 abbrev Inv-loop : tie.InvT-loop
-Inv-loop file rows first upper₀ lower₀ i₀ upper lower i =
+Inv-loop file rows first above₀ below₀ i₀ above below i =
     (first ≡ headerOf file .rowsOffset)
     × ((rows ≡ headerOf file .rowCount)
     × ((i ≤ rows)
-    × ((upper + sum numeratorShare (rowsLeft file i) ≡ sum numeratorShare (rowsOf file))
-    × ((lower + sum lowerShare (rowsLeft file i) ≡ sum lowerShare (rowsOf file))
-    × ((upper ≤ 8589934592 * i) × ((lower ≤ 8589934592 * i) × (any (fails file) (rowsLeft file i) ≡ false)))))))
+    × ((above + sum numeratorShare (rowsLeft file i) ≡ sum numeratorShare (rowsOf file))
+    × ((below + sum denominatorShare (rowsLeft file i) ≡ sum denominatorShare (rowsOf file))
+    × ((above ≤ 8589934592 * i) × ((below ≤ 8589934592 * i) × (any (fails file) (rowsLeft file i) ≡ false)))))))
 
 abbrev μ-loop : tie.MeasureT-loop
-μ-loop file rows first upper₀ lower₀ i₀ upper lower i = rows - i
+μ-loop file rows first above₀ below₀ i₀ above below i = rows - i
 
 word-requires : tie.Need-word-requires Inv-loop μ-loop
 word-requires c κs = search needs
@@ -36,7 +36,7 @@ unfolding headerOf
 loop-holds c =
     let start = c .before .before .before in
     let f = start .args .file .now in
-    (c .word2 .ensures .0, (c .before .word .ensures .0, (omega arith, (sum-start numeratorShare (rows-start f), (sum-start lowerShare (rows-start f), (omega arith, (omega arith, none-start (fails f) (rows-start f) (start .pre .1 .1 .1 .1))))))))
+    (c .word2 .ensures .0, (c .before .word .ensures .0, (omega arith, (sum-start numeratorShare (rows-start f), (sum-start denominatorShare (rows-start f), (omega arith, (omega arith, none-start (fails f) (rows-start f) (start .pre .1 .1 .1 .1))))))))
 
 mul-row : tie.Need-mul-row Inv-loop μ-loop
 mul-row c = search needs
@@ -105,11 +105,11 @@ denominator-share-requires c κs =
     let f = l .before .before .before .before .args .file .now in
     omega (arith, part-length f (l .before .word2 .result + 56 * l .loop .i))
 
-add-upper : tie.Need-add-upper Inv-loop μ-loop
-add-upper c = search needs
+add-numerator : tie.Need-add-numerator Inv-loop μ-loop
+add-numerator c = search needs
 
-add-lower : tie.Need-add-lower Inv-loop μ-loop
-add-lower c = search needs
+add-denominator : tie.Need-add-denominator Inv-loop μ-loop
+add-denominator c = search needs
 
 add-i : tie.Need-add-i Inv-loop μ-loop
 add-i c = search needs
@@ -129,11 +129,11 @@ loop-again c =
     let curve = c .before .before .before .before .before .before .before .curve-at in
     let more = c .before .before .before .before .numerator-share in
     let less = c .before .before .denominator-share in
-    let upper = row-in-parts f numeratorShare i at (curve .result) (more .result .0) place (curve .ensures .0) (more .ensures .0) in
-    let lower = lower-in-parts f i at (curve .result) (less .result .0) place (curve .ensures .0) (less .ensures .0) in
+    let above = row-in-parts f numeratorShare i at (curve .result) (more .result .0) place (curve .ensures .0) (more .ensures .0) in
+    let below = denominator-in-parts f i at (curve .result) (less .result .0) place (curve .ensures .0) (less .ensures .0) in
     let sums = inv .1 .1 .1 in
     let left = rows-turn f i (omega (arith, inv .1 .0, turn .loop-test .taken)) in
-    (inv .0, (inv .1 .0, (omega (arith, turn .loop-test .taken), (sum-turn numeratorShare _ _ _ left (sums .0) upper, (sum-turn lowerShare _ _ _ left (sums .1 .0) lower, (omega (arith, more .ensures .1), (omega (arith, less .ensures .1), none-turn (fails f) left (sums .1 .1 .1 .1) .1)))))))
+    (inv .0, (inv .1 .0, (omega (arith, turn .loop-test .taken), (sum-turn numeratorShare _ _ _ left (sums .0) above, (sum-turn denominatorShare _ _ _ left (sums .1 .0) below, (omega (arith, more .ensures .1), (omega (arith, less .ensures .1), none-turn (fails f) left (sums .1 .1 .1 .1) .1)))))))
 
 import-share-requires : tie.Need-import-share-requires Inv-loop μ-loop
 import-share-requires c κs = search needs
@@ -148,7 +148,7 @@ returns c =
     let f = l .before .before .before .before .args .file .now in
     let sums = l .loop .inv .1 .1 .1 in
     let none = rows-end f (l .loop .i) (omega arith) in
-    (ap₂ _+_ (sum-end numeratorShare _ _ none (sums .0)) (c .before .import-share .ensures .0), sum-end lowerShare _ _ none (sums .1 .0))
+    (ap₂ _+_ (sum-end numeratorShare _ _ none (sums .0)) (c .before .import-share .ensures .0), sum-end denominatorShare _ _ none (sums .1 .0))
 
 pub ratio-sides-spec : {M : Type 1} → statement M
 ratio-sides-spec =
@@ -176,8 +176,8 @@ ratio-sides-spec =
     part-denominator-share-start
     part-denominator-share-end
     denominator-share-requires
-    add-upper
-    add-lower
+    add-numerator
+    add-denominator
     add-i
     loop-less
     loop-again

@@ -14,8 +14,8 @@ charge-rows-requires : tie.Need-charge-rows-requires
 charge-rows-requires c κs =
     let sides = c .before .before .before in
     let start = sides .before .before .before .before in
-    let upper = sides .ratio-sides .ensures .0 in
-    (start .pre .0, (upper, (subst (λ n. n ≤ 2 ^ 40) (sym upper) (numerator-fits _ _ (start .pre .0)), (sides .ratio-sides .ensures .1, start .pre .1))))
+    let above = sides .ratio-sides .ensures .0 in
+    (start .pre .0, (above, (subst (λ n. n ≤ 2 ^ 40) (sym above) (numerator-fits _ _ (start .pre .0)), (sides .ratio-sides .ensures .1, start .pre .1))))
 
 word-requires : tie.Need-word-requires
 word-requires c κs = search needs

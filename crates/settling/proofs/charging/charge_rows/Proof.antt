@@ -12,11 +12,11 @@ use Rattle.settling.proofs.charging.charge_rows.Statement.{statement}
 use Rattle.settling.proofs.charging.charge_rows.Tie as tie
 
 abbrev Inv-loop : tie.InvT-loop
-Inv-loop ledger file upper lower rows₀ cone days count first i₀ j₀ rows i j =
-    Walking ledger file (record { numerator = upper .0; denominator = lower .0 }) cone days count first rows i j
+Inv-loop ledger file above below rows₀ cone days count first i₀ j₀ rows i j =
+    Walking ledger file (record { numerator = above .0; denominator = below .0 }) cone days count first rows i j
 
 abbrev μ-loop : tie.MeasureT-loop
-μ-loop ledger file upper lower rows₀ cone days count first i₀ j₀ rows i j = accountCount ledger - j
+μ-loop ledger file above below rows₀ cone days count first i₀ j₀ rows i j = accountCount ledger - j
 
 word-requires : tie.Need-word-requires Inv-loop μ-loop
 unfolding ledgerBytes
@@ -176,7 +176,7 @@ returns : tie.Need-returns Inv-loop μ-loop
 unfolding ratioOf
 returns c =
     let start = c .before .before .before .before .before .before .before .before .before in
-    let sides : ℕ → ℕ → Ratio = λ upper lower. record { numerator = upper; denominator = lower } in
+    let sides : ℕ → ℕ → Ratio = λ above below. record { numerator = above; denominator = below } in
     let ratio = ap₂ sides (start .pre .1 .0) (start .pre .1 .1 .1 .0) in
     walk-ends (c .before .loop .inv) (c .loop-test .left) ratio
 
