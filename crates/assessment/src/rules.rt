@@ -137,19 +137,6 @@ pub fn expected(row: &[u8], numerator: Kilowatts, denominator: Kilowatts) -> Kil
     }
 }
 
-// Outage, by the kind word.
-pub fn outage(row: &[u8]) -> Kilowatts
-    requires { ⌜ 56 ≤ length (now row) ⌝ }
-    ensures { λ r. ⌜ r .0 ≡ outageOf (rowAt (now (row .entry)) []) ⌝ }
-    ensures { λ r. ⌜ r .0 < 2 ^ 32 ⌝ }
-{
-    let kind = word(row, KIND);
-    match kind {
-        0 | 4 => Kilowatts(word(row, PLANNED)),
-        _ => Kilowatts(0),
-    }
-}
-
 // Bonus, of a row of which so many kW are expected, by the kind word: kinds 0 and 4 have none for what they gave above the schedule.
 pub fn bonus(
     row: &[u8],
@@ -167,6 +154,75 @@ pub fn bonus(
     match kind {
         0 | 4 => Kilowatts(above(lesser(act.0, sched.0), expect.0)),
         1 | 2 | 3 => Kilowatts(above(act.0, expect.0)),
+        _ => Kilowatts(0),
+    }
+}
+
+// What a demand or PRD row adds to the numerator: its bonus, of which the committed kW are expected.
+fn reduction(row: &[u8]) -> Kilowatts
+    requires { ⌜ 56 ≤ length (now row) ⌝ }
+    ensures { λ r. ⌜ r .0 ≡ actualOf (rowAt (now (row .entry)) []) - rowAt (now (row .entry)) [] .committed ⌝ }
+    ensures { λ r. ⌜ r .0 < 2 ^ 33 ⌝ }
+{
+    let given = actual(row);
+    Kilowatts(above(given.0, word(row, COMMITTED)))
+}
+
+// What a row adds to the numerator, by the kind word.
+pub fn numerator_share(row: &[u8], points: &[u8]) -> Kilowatts
+    requires { ⌜ 56 ≤ length (now row) ⌝ }
+    requires { ⌜ 8 * word32 (now row) 13 ≤ length (now points) ⌝ }
+    ensures { λ r. ⌜ r .0 ≡ numeratorShare (rowAt (now (row .entry)) (now (points .entry))) ⌝ }
+    ensures { λ r. ⌜ r .0 < 2 ^ 33 ⌝ }
+{
+    let kind = word(row, KIND);
+    match kind {
+        0 | 4 => actual(row),
+        1 => reduction(row),
+        3 => {
+            if considered(row, points) {
+                return reduction(row);
+            }
+            Kilowatts(0)
+        }
+        _ => Kilowatts(0),
+    }
+}
+
+// What the net imports add to the numerator: only when region-wide, if positive.
+pub fn import_share(file: &[u8]) -> Kilowatts
+    requires { ⌜ 40 ≤ length (now file) ⌝ }
+    ensures { λ r. ⌜ r .0 ≡ importShare (headerOf (now (file .entry))) ⌝ }
+    ensures { λ r. ⌜ r .0 < 2 ^ 33 ⌝ }
+{
+    if word(file, REGION_WIDE) != 1 {
+        return Kilowatts(0);
+    }
+    Kilowatts(or_zero(signed_word(file, IMPORTS)))
+}
+
+// What a row adds to the denominator, by the kind word.
+pub fn denominator_share(row: &[u8]) -> Kilowatts
+    requires { ⌜ 56 ≤ length (now row) ⌝ }
+    ensures { λ r. ⌜ r .0 ≡ denominatorShare (rowAt (now (row .entry)) []) ⌝ }
+    ensures { λ r. ⌜ r .0 < 2 ^ 32 ⌝ }
+{
+    let kind = word(row, KIND);
+    match kind {
+        0 => Kilowatts(word(row, COMMITTED)),
+        _ => Kilowatts(0),
+    }
+}
+
+// Outage, by the kind word.
+pub fn outage(row: &[u8]) -> Kilowatts
+    requires { ⌜ 56 ≤ length (now row) ⌝ }
+    ensures { λ r. ⌜ r .0 ≡ outageOf (rowAt (now (row .entry)) []) ⌝ }
+    ensures { λ r. ⌜ r .0 < 2 ^ 32 ⌝ }
+{
+    let kind = word(row, KIND);
+    match kind {
+        0 | 4 => Kilowatts(word(row, PLANNED)),
         _ => Kilowatts(0),
     }
 }
@@ -193,6 +249,23 @@ pub fn economic(
         }
         _ => Kilowatts(0),
     }
+}
+
+// Shortfall, of a row of which so many kW are expected, from its actual, outage and economic kW.
+pub fn shortfall(
+    row: &[u8],
+    points: &[u8],
+    act: Kilowatts,
+    out: Kilowatts,
+    econ: Kilowatts,
+    expect: Kilowatts,
+) -> Kilowatts
+    requires { ⌜ act .0 ≡ actualOf (rowAt (now row) (now points)) ⌝ }
+    requires { ⌜ out .0 ≡ outageOf (rowAt (now row) (now points)) ⌝ }
+    requires { ⌜ econ .0 ≡ economicOf (rowAt (now row) (now points)) (expect .0) ⌝ }
+    ensures { λ r. ⌜ r .0 ≡ shortfallOf (rowAt (now (row .entry)) (now (points .entry))) (expect .0) ⌝ }
+{
+    Kilowatts(above(above(above(expect.0, act.0), out.0), econ.0))
 }
 
 // The largest commitment of an account that a row has raised to its committed kW, if that is larger.
@@ -249,77 +322,4 @@ pub fn share(cents: Cents, total: Kilowatts, kw: Kilowatts) -> Cents
     let weight = kw.0;
     let pool = cents.0;
     Cents(weight * pool / whole)
-}
-
-// Shortfall, of a row of which so many kW are expected, from its actual, outage and economic kW.
-pub fn shortfall(
-    row: &[u8],
-    points: &[u8],
-    act: Kilowatts,
-    out: Kilowatts,
-    econ: Kilowatts,
-    expect: Kilowatts,
-) -> Kilowatts
-    requires { ⌜ act .0 ≡ actualOf (rowAt (now row) (now points)) ⌝ }
-    requires { ⌜ out .0 ≡ outageOf (rowAt (now row) (now points)) ⌝ }
-    requires { ⌜ econ .0 ≡ economicOf (rowAt (now row) (now points)) (expect .0) ⌝ }
-    ensures { λ r. ⌜ r .0 ≡ shortfallOf (rowAt (now (row .entry)) (now (points .entry))) (expect .0) ⌝ }
-{
-    Kilowatts(above(above(above(expect.0, act.0), out.0), econ.0))
-}
-
-// What a demand or PRD row adds to the numerator: its bonus, of which the committed kW are expected.
-fn reduction(row: &[u8]) -> Kilowatts
-    requires { ⌜ 56 ≤ length (now row) ⌝ }
-    ensures { λ r. ⌜ r .0 ≡ actualOf (rowAt (now (row .entry)) []) - rowAt (now (row .entry)) [] .committed ⌝ }
-    ensures { λ r. ⌜ r .0 < 2 ^ 33 ⌝ }
-{
-    let given = actual(row);
-    Kilowatts(above(given.0, word(row, COMMITTED)))
-}
-
-// What a row adds to the numerator, by the kind word.
-pub fn numerator_share(row: &[u8], points: &[u8]) -> Kilowatts
-    requires { ⌜ 56 ≤ length (now row) ⌝ }
-    requires { ⌜ 8 * word32 (now row) 13 ≤ length (now points) ⌝ }
-    ensures { λ r. ⌜ r .0 ≡ numeratorShare (rowAt (now (row .entry)) (now (points .entry))) ⌝ }
-    ensures { λ r. ⌜ r .0 < 2 ^ 33 ⌝ }
-{
-    let kind = word(row, KIND);
-    match kind {
-        0 | 4 => actual(row),
-        1 => reduction(row),
-        3 => {
-            if considered(row, points) {
-                return reduction(row);
-            }
-            Kilowatts(0)
-        }
-        _ => Kilowatts(0),
-    }
-}
-
-// What a row adds to the denominator, by the kind word.
-pub fn denominator_share(row: &[u8]) -> Kilowatts
-    requires { ⌜ 56 ≤ length (now row) ⌝ }
-    ensures { λ r. ⌜ r .0 ≡ denominatorShare (rowAt (now (row .entry)) []) ⌝ }
-    ensures { λ r. ⌜ r .0 < 2 ^ 32 ⌝ }
-{
-    let kind = word(row, KIND);
-    match kind {
-        0 => Kilowatts(word(row, COMMITTED)),
-        _ => Kilowatts(0),
-    }
-}
-
-// What the net imports add to the numerator: only when region-wide, if positive.
-pub fn import_share(file: &[u8]) -> Kilowatts
-    requires { ⌜ 40 ≤ length (now file) ⌝ }
-    ensures { λ r. ⌜ r .0 ≡ importShare (headerOf (now (file .entry))) ⌝ }
-    ensures { λ r. ⌜ r .0 < 2 ^ 33 ⌝ }
-{
-    if word(file, REGION_WIDE) != 1 {
-        return Kilowatts(0);
-    }
-    Kilowatts(or_zero(signed_word(file, IMPORTS)))
 }

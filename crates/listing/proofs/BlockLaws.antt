@@ -13,7 +13,7 @@ use Rattle.words.specs.Words.{wordsIn, placedAt}
 use Rattle.words.specs.Lists.{any}
 use Rattle.words.proofs.Tests.{facts}
 use Rattle.words.proofs.Grounds.{none-applies}
-use Rattle.reading.specs.Interval.{headerBytes, headerOf, rowOf, rowsOf, notAFile, tablesMisplaced}
+use Rattle.reading.specs.Interval.{headerBytes, mostRows, headerOf, rowOf, rowsOf, notAFile, tablesMisplaced}
 use Rattle.reading.proofs.Bounds.{file-has-header, TablesIn, tables-in}
 use Rattle.reading.proofs.Walk.{rowPart, rowsLeft, rows-start, rows-turn, rows-end}
 use Rattle.ledger.specs.Ledger.{ledgerBytes}
@@ -22,6 +22,7 @@ use Rattle.settling.specs.Settling.{resultHeaderBytes, resultRowBytes, resultTo
 use Rattle.settling.proofs.Accepted.{settling-none}
 use Rattle.listing.specs.Lines.{line, refusedLine}
 use Rattle.listing.specs.Npalist.{rowLines, poolLine, intervalLines, ledgerBuffer, resultBuffer, openingListed, intervalListed}
+use Rattle.listing.specs.Room.{refusedRoom, rowRoom, poolRoom, blockRoom}
 use Rattle.words.proofs.Placing.{place-none, then-place, place-rest}
 
 -- one more byte filled with zero
@@ -67,7 +68,7 @@ module _ (f b : List ℕ) (interval : ℕ) where
 
   -- one turn of writing them: what is left to write, and where it ends
   pub row-turn : (i id at m end : ℕ) (part out x goal : List ℕ) → i < headerOf f .rowCount → id ≡ rowOf f (rowPart f i) .id → part ≡ drop (64 + 64 * i) b
-      → at + 210 ≤ length out → m ≤ at + 210 → placedAt at (linesLeft i) out ≡ goal → at + length (linesLeft i) ≡ end
+      → at + rowRoom ≤ length out → m ≤ at + rowRoom → placedAt at (linesLeft i) out ≡ goal → at + length (linesLeft i) ≡ end
       → x ≡ placedAt at (line (interval ∷ id ∷ wordsIn 8 part)) out → m ≡ at + length (line (interval ∷ id ∷ wordsIn 8 part))
       → (placedAt m (linesLeft (i + 1)) x ≡ goal) × (m + length (linesLeft (i + 1)) ≡ end)
   row-turn i id at m end part out x goal h e p room short left stop put behind =
@@ -102,7 +103,7 @@ settled l f r e =
     let g11 : tablesMisplaced f ≡ false = search facts depth 14 in
     record { header = file-has-header f g7; tables = tables-in f g11; room = search facts depth 14 }
 
--- a cleared result, and a cleared ledger
+-- a result buffer for 512 rows, filled with zeros, is the one that the listing settles with
 pub result-cleared : (r : List ℕ) → length r ≡ 64 + 64 * 512 → replicate (length r) 0 ≡ resultBuffer
 unfolding resultBuffer
 result-cleared r e = ap (λ n. replicate n 0) e
@@ -136,9 +137,9 @@ module _ (number ground : ℕ) (l file r after : List ℕ) (zeros : r ≡ result
   same = g ∙ ap (λ b. settling l file b .ground) zeros
 
   -- what it comes to, once its lines are placed
-  ends : (end : ℕ) (lines out y : List ℕ) → lines ≡ intervalLines number file answer → y ≡ placedAt 0 lines out → end ≡ 0 + length lines → end ≤ 512 * 210 + 110
+  ends : (end : ℕ) (lines out y : List ℕ) → lines ≡ intervalLines number file answer → y ≡ placedAt 0 lines out → end ≡ 0 + length lines → end ≤ blockRoom
       → (after ≡ intervalListed number l file .ledger)
-      × ((y ≡ placedAt 0 (intervalListed number l file .printed) out) × ((end ≡ length (intervalListed number l file .printed)) × (end ≤ 512 * 210 + 110)))
+      × ((y ≡ placedAt 0 (intervalListed number l file .printed) out) × ((end ≡ length (intervalListed number l file .printed)) × (end ≤ blockRoom)))
   unfolding intervalListed
   ends end lines out y is put behind most = (
     e ∙ ap (λ b. settling l file b .ledger) zeros,
@@ -146,9 +147,9 @@ module _ (number ground : ℕ) (l file r after : List ℕ) (zeros : r ≡ result
   )
 
   -- a refused interval block, its line placed, comes to the ledger and the bytes listed for it
-  pub interval-refused : (end : ℕ) (out y : List ℕ) → (ground ≡ 0 → ⊥) → y ≡ placedAt 0 (refusedLine number ground) out → end ≡ 0 + length (refusedLine number ground) → end ≤ 50
+  pub interval-refused : (end : ℕ) (out y : List ℕ) → (ground ≡ 0 → ⊥) → y ≡ placedAt 0 (refusedLine number ground) out → end ≡ 0 + length (refusedLine number ground) → end ≤ refusedRoom
       → (after ≡ intervalListed number l file .ledger)
-      × ((y ≡ placedAt 0 (intervalListed number l file .printed) out) × ((end ≡ length (intervalListed number l file .printed)) × (end ≤ 512 * 210 + 110)))
+      × ((y ≡ placedAt 0 (intervalListed number l file .printed) out) × ((end ≡ length (intervalListed number l file .printed)) × (end ≤ blockRoom)))
   interval-refused end out y some put behind most =
       ends end (refusedLine number ground) out y
       (ap (refusedLine number) same ∙ sym (refused-lines number file answer (λ none. some (same ∙ none))))
@@ -156,11 +157,11 @@ module _ (number ground : ℕ) (l file r after : List ℕ) (zeros : r ≡ result
 
   -- a settled interval block, its row lines and pool line placed, comes to what is listed for it
   pub interval-settled : (result out x y : List ℕ) (interval m end : ℕ) → ground ≡ 0 → result ≡ settling l file r .result → interval ≡ headerOf file .interval
-      → 512 * 210 + 110 ≤ length out → m ≤ 512 * 210 → end ≤ m + 110
+      → blockRoom ≤ length out → m ≤ mostRows * rowRoom → end ≤ m + poolRoom
       → x ≡ placedAt 0 (rowLines (headerOf file .interval) (rowsOf file) (drop 64 result)) out → m ≡ 0 + length (rowLines (headerOf file .interval) (rowsOf file) (drop 64 result))
       → y ≡ placedAt m (poolLine interval result) x → end ≡ m + length (poolLine interval result)
       → (after ≡ intervalListed number l file .ledger)
-      × ((y ≡ placedAt 0 (intervalListed number l file .printed) out) × ((end ≡ length (intervalListed number l file .printed)) × (end ≤ 512 * 210 + 110)))
+      × ((y ≡ placedAt 0 (intervalListed number l file .printed) out) × ((end ≡ length (intervalListed number l file .printed)) × (end ≤ blockRoom)))
   interval-settled result out x y interval m end none is word room few short first from second behind =
       let rows = rowLines (headerOf file .interval) (rowsOf file) (drop 64 result) in
       let pool = poolLine interval result in
@@ -177,9 +178,9 @@ module _ (ground : ℕ) (block l after : List ℕ) (zeros : l ≡ ledgerBuffer) 
   same-ground = g ∙ ap (λ b. opening block b .ground) zeros
 
   -- a refused opening, its line placed, comes to what is listed for it, and the listing stops
-  pub opening-refused : (end : ℕ) (out y : List ℕ) → (ground ≡ 0 → ⊥) → y ≡ placedAt 0 (refusedLine 0 ground) out → end ≡ 0 + length (refusedLine 0 ground) → end ≤ 50
+  pub opening-refused : (end : ℕ) (out y : List ℕ) → (ground ≡ 0 → ⊥) → y ≡ placedAt 0 (refusedLine 0 ground) out → end ≡ 0 + length (refusedLine 0 ground) → end ≤ refusedRoom
       → (after ≡ openingListed block .ledger)
-      × ((y ≡ placedAt 0 (openingListed block .printed) out) × ((end ≡ length (openingListed block .printed)) × ((false ≡ openingListed block .on) × (end ≤ 50))))
+      × ((y ≡ placedAt 0 (openingListed block .printed) out) × ((end ≡ length (openingListed block .printed)) × ((false ≡ openingListed block .on) × (end ≤ refusedRoom))))
   unfolding openingListed
   opening-refused end out y some put behind most =
       let stops : eqb (opening block ledgerBuffer .ground) 0 ≡ false = ne-eqb (opening block ledgerBuffer .ground) 0 (λ none. some (same-ground ∙ none)) in
@@ -191,7 +192,7 @@ module _ (ground : ℕ) (block l after : List ℕ) (zeros : l ≡ ledgerBuffer) 
   -- an accepted opening comes to the ledger listed for it, prints nothing, and the listing goes on
   pub opening-opened : (out : List ℕ) → ground ≡ 0
       → (after ≡ openingListed block .ledger)
-      × ((out ≡ placedAt 0 (openingListed block .printed) out) × ((0 ≡ length (openingListed block .printed)) × ((true ≡ openingListed block .on) × (0 ≤ 50))))
+      × ((out ≡ placedAt 0 (openingListed block .printed) out) × ((0 ≡ length (openingListed block .printed)) × ((true ≡ openingListed block .on) × (0 ≤ refusedRoom))))
   unfolding openingListed
   opening-opened out none =
       let goes : eqb (opening block ledgerBuffer .ground) 0 ≡ true = eq-eqb (opening block ledgerBuffer .ground) 0 (sym same-ground ∙ none) in

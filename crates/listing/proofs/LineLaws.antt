@@ -7,16 +7,17 @@ use lib.ListN.{length, drop, length-append}
 use lib.Seq.{drop-drop}
 use Rattle.words.specs.Words.{number, numberAt, word64, entries, wordsIn, placedAt}
 use Rattle.listing.specs.Lines.{text, decimal, line}
+use Rattle.listing.specs.Room.{fieldRoom}
 use Rattle.words.proofs.Placing.{then-place, place-rest}
 use Rattle.listing.proofs.Digits.{decimal-most}
 
 -- a number and one byte behind it
-pub number-then : (at v byte : ℕ) (b x y : List ℕ) (m n : ℕ) → at + 21 ≤ length b → x ≡ placedAt at (decimal v) b → m ≡ at + length (decimal v)
+pub number-then : (at v byte : ℕ) (b x y : List ℕ) (m n : ℕ) → at + fieldRoom ≤ length b → x ≡ placedAt at (decimal v) b → m ≡ at + length (decimal v)
     → y ≡ placedAt m (byte ∷ []) x → n ≡ m + 1 → (y ≡ placedAt at (decimal v ++ byte ∷ []) b) × (n ≡ at + length (decimal v ++ byte ∷ []))
 number-then at v byte b x y m n room e p f q =
     then-place at (decimal v) (byte ∷ []) b x y m n (omega (arith, decimal-most v)) e p f q
 
--- the comma and the newline
+-- the byte of a comma
 pub comma : text "," ≡ 44 ∷ []
 unfolding text
 comma = refl
@@ -26,8 +27,8 @@ pub last-of-line : (v : ℕ) → line (v ∷ []) ≡ decimal v ++ 10 ∷ []
 unfolding text line
 last-of-line v = refl
 
--- a number and a comma take at most 21 bytes
-pub field-most : (v : ℕ) → length (decimal v ++ text ",") ≤ 21
+-- a number and a comma have room in a field
+pub field-most : (v : ℕ) → length (decimal v ++ text ",") ≤ fieldRoom
 field-most v = rw comma (omega (arith, length-append (decimal v) (44 ∷ []), decimal-most v))
 
 -- the line of two words or more, by its first word
@@ -56,7 +57,7 @@ word-left n i v b h e =
     ap (λ w. line (w ∷ [])) e ∙ ap (λ c. line (wordsIn c (drop (8 * i) b))) one
 
 -- one turn of writing a line of words: what is left to write, and where it ends
-pub words-turn : (n i v at m end : ℕ) (b out x goal : List ℕ) → i + 1 < n → v ≡ numberAt 8 b (8 * i) → at + 21 ≤ length out
+pub words-turn : (n i v at m end : ℕ) (b out x goal : List ℕ) → i + 1 < n → v ≡ numberAt 8 b (8 * i) → at + fieldRoom ≤ length out
     → placedAt at (line (wordsIn (n - i) (drop (8 * i) b))) out ≡ goal → at + length (line (wordsIn (n - i) (drop (8 * i) b))) ≡ end
     → x ≡ placedAt at (decimal v ++ text ",") out → m ≡ at + length (decimal v ++ text ",")
     → (placedAt m (line (wordsIn (n - (i + 1)) (drop (8 * (i + 1)) b))) x ≡ goal) × (m + length (line (wordsIn (n - (i + 1)) (drop (8 * (i + 1)) b))) ≡ end)

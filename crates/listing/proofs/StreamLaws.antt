@@ -11,6 +11,7 @@ use borrow.Author.Tests.{lt-ltb, le-ltb, eq-eqb, ne-eqb}
 use Rattle.words.specs.Words.{numberAt, word32, placedAt}
 use Rattle.listing.specs.Lines.{refusedLine, cutLine}
 use Rattle.listing.specs.Npalist.{Next, nextBlock, Listed, blockListed, stopped, mostBytes, bytesDue, listed}
+use Rattle.listing.specs.Room.{refusedRoom, blockRoom}
 
 -- a stream s, with blocks of at most so many bytes
 module _ (most : ℕ) (s : List ℕ) where
@@ -47,25 +48,25 @@ module _ (most : ℕ) (s : List ℕ) where
             rw (ne-eqb (length s) 0 some, le-ltb (length s) 4 h, le-ltb most (word32 s 0) k, le-ltb (length (drop 4 s)) (word32 s 0) whole)
 
 -- where the listing stops: what it comes to, once its line is placed
-pub stops : (l : Listed) (end n : ℕ) (on : Bool) (ledger bytes out y : List ℕ) → l ≡ stopped ledger bytes → y ≡ placedAt 0 bytes out → n ≡ 0 + length bytes → end ≡ n → on ≡ false → n ≤ 50
-    → (ledger ≡ l .ledger) × ((y ≡ placedAt 0 (l .printed) out) × ((end ≡ length (l .printed)) × ((on ≡ l .on) × (end ≤ 512 * 210 + 110))))
+pub stops : (l : Listed) (end n : ℕ) (on : Bool) (ledger bytes out y : List ℕ) → l ≡ stopped ledger bytes → y ≡ placedAt 0 bytes out → n ≡ 0 + length bytes → end ≡ n → on ≡ false → n ≤ refusedRoom
+    → (ledger ≡ l .ledger) × ((y ≡ placedAt 0 (l .printed) out) × ((end ≡ length (l .printed)) × ((on ≡ l .on) × (end ≤ blockRoom))))
 unfolding stopped
 stops l end n on ledger bytes out y e put behind same off most = (
   ap (λ a. a .ledger) (sym e),
   (put ∙ ap (λ a. placedAt 0 (a .printed) out) (sym e), (same ∙ behind ∙ zero-add (length bytes) ∙ ap (λ a. length (a .printed)) (sym e), (off ∙ ap (λ a. a .on) (sym e), omega arith))),
 )
 
--- what differs for the opening, block 0, and for a later block
+-- the opening, block 0, has the first of two
 pub at-first : {A : Type 0} (number : ℕ) (a b : A) → number ≡ 0 → cond (eqb number 0) a b ≡ a
 at-first number a b e = rw (eq-eqb number 0 e)
 
--- a later block, whose number is not 0, has the second of the two
+-- a later block has the second
 pub at-later : {A : Type 0} (number : ℕ) (a b : A) → (number ≡ 0 → ⊥) → cond (eqb number 0) a b ≡ b
 at-later number a b e = rw (ne-eqb number 0 e)
 
 -- what a block comes to, by another name of it
-pub come-to : (l m : Listed) (end : ℕ) (on : Bool) (after out y : List ℕ) → l ≡ m → after ≡ m .ledger → y ≡ placedAt 0 (m .printed) out → end ≡ length (m .printed) → on ≡ m .on → end ≤ 512 * 210 + 110
-    → (after ≡ l .ledger) × ((y ≡ placedAt 0 (l .printed) out) × ((end ≡ length (l .printed)) × ((on ≡ l .on) × (end ≤ 512 * 210 + 110))))
+pub come-to : (l m : Listed) (end : ℕ) (on : Bool) (after out y : List ℕ) → l ≡ m → after ≡ m .ledger → y ≡ placedAt 0 (m .printed) out → end ≡ length (m .printed) → on ≡ m .on → end ≤ blockRoom
+    → (after ≡ l .ledger) × ((y ≡ placedAt 0 (l .printed) out) × ((end ≡ length (l .printed)) × ((on ≡ l .on) × (end ≤ blockRoom))))
 come-to l m end on after out y same e put behind goes most = (
   e ∙ ap (λ a. a .ledger) (sym same),
   (put ∙ ap (λ a. placedAt 0 (a .printed) out) (sym same), (behind ∙ ap (λ a. length (a .printed)) (sym same), (goes ∙ ap (λ a. a .on) (sym same), most))),

@@ -1,3 +1,4 @@
 pub mod Lines
 pub mod Npalist
+pub mod Room
 pub mod Figures

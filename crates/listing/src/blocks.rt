@@ -19,6 +19,7 @@ ghost use lib.ListN.{length, drop, replicate};
 ghost use Rattle.words.specs.Words.{placedAt};
 ghost use Rattle.reading.specs.Interval.{headerOf, rowsOf};
 ghost use Rattle.listing.specs.Npalist.{rowLines, openingListed, intervalListed, blockListed};
+ghost use Rattle.listing.specs.Room.{refusedRoom, rowRoom, blockRoom};
 
 // What a block comes to: the end of the bytes to print, and whether the listing goes on.
 pub struct Listed {
@@ -42,10 +43,10 @@ fn put_row_lines(out: &mut [u8], at: usize, file: &[u8], result: &[u8]) -> usize
     requires { ⌜ 40 ≤ length (now file) ⌝ }
     requires { ⌜ headerOf (now file) .rowsOffset + 56 * headerOf (now file) .rowCount ≤ length (now file) ⌝ }
     requires { ⌜ 64 + 64 * headerOf (now file) .rowCount ≤ length (now result) ⌝ }
-    requires { ⌜ at + 210 * headerOf (now file) .rowCount ≤ length (now out) ⌝ }
+    requires { ⌜ at + rowRoom * headerOf (now file) .rowCount ≤ length (now out) ⌝ }
     ensures { λ _. ⌜ now (out .exit) ≡ placedAt at (rowLines (headerOf (now (file .entry)) .interval) (rowsOf (now (file .entry))) (drop 64 (now (result .entry)))) (now (out .entry)) ⌝ }
     ensures { λ r. ⌜ r ≡ at + length (rowLines (headerOf (now (file .entry)) .interval) (rowsOf (now (file .entry))) (drop 64 (now (result .entry)))) ⌝ }
-    ensures { λ r. ⌜ r ≤ at + 210 * headerOf (now (file .entry)) .rowCount ⌝ }
+    ensures { λ r. ⌜ r ≤ at + rowRoom * headerOf (now (file .entry)) .rowCount ⌝ }
 {
     let interval = word(file, INTERVAL);
     let rows = word(file, ROWS) as usize;
@@ -75,11 +76,11 @@ fn list_interval(
     out: &mut [u8],
 ) -> usize
     requires { ⌜ length (now result) ≡ 64 + 64 * 512 ⌝ }
-    requires { ⌜ 512 * 210 + 110 ≤ length (now out) ⌝ }
+    requires { ⌜ blockRoom ≤ length (now out) ⌝ }
     ensures { λ _. ⌜ now (ledger .exit) ≡ intervalListed number (now (ledger .entry)) (now (file .entry)) .ledger ⌝ }
     ensures { λ _. ⌜ now (out .exit) ≡ placedAt 0 (intervalListed number (now (ledger .entry)) (now (file .entry)) .printed) (now (out .entry)) ⌝ }
     ensures { λ r. ⌜ r ≡ length (intervalListed number (now (ledger .entry)) (now (file .entry)) .printed) ⌝ }
-    ensures { λ r. ⌜ r ≤ 512 * 210 + 110 ⌝ }
+    ensures { λ r. ⌜ r ≤ blockRoom ⌝ }
 {
     clear(result);
     let ground = settle_file(ledger, file, result);
@@ -93,12 +94,12 @@ fn list_interval(
 // Opens a ledger in a buffer of zeros, and writes its refusal, if any.
 fn list_opening(block: &[u8], ledger: &mut [u8], out: &mut [u8]) -> Listed
     requires { ⌜ length (now ledger) ≡ 64 + 32 * 512 ⌝ }
-    requires { ⌜ 50 ≤ length (now out) ⌝ }
+    requires { ⌜ refusedRoom ≤ length (now out) ⌝ }
     ensures { λ _. ⌜ now (ledger .exit) ≡ openingListed (now (block .entry)) .ledger ⌝ }
     ensures { λ _. ⌜ now (out .exit) ≡ placedAt 0 (openingListed (now (block .entry)) .printed) (now (out .entry)) ⌝ }
     ensures { λ r. ⌜ r .end ≡ length (openingListed (now (block .entry)) .printed) ⌝ }
     ensures { λ r. ⌜ r .on ≡ openingListed (now (block .entry)) .on ⌝ }
-    ensures { λ r. ⌜ r .end ≤ 50 ⌝ }
+    ensures { λ r. ⌜ r .end ≤ refusedRoom ⌝ }
 {
     clear(ledger);
     let ground = open(block, ledger);
@@ -119,12 +120,12 @@ pub fn list_block(
 ) -> Listed
     requires { ⌜ length (now ledger) ≡ 64 + 32 * 512 ⌝ }
     requires { ⌜ length (now result) ≡ 64 + 64 * 512 ⌝ }
-    requires { ⌜ 512 * 210 + 110 ≤ length (now out) ⌝ }
+    requires { ⌜ blockRoom ≤ length (now out) ⌝ }
     ensures { λ _. ⌜ now (ledger .exit) ≡ blockListed number (now (ledger .entry)) (now (block .entry)) .ledger ⌝ }
     ensures { λ _. ⌜ now (out .exit) ≡ placedAt 0 (blockListed number (now (ledger .entry)) (now (block .entry)) .printed) (now (out .entry)) ⌝ }
     ensures { λ r. ⌜ r .end ≡ length (blockListed number (now (ledger .entry)) (now (block .entry)) .printed) ⌝ }
     ensures { λ r. ⌜ r .on ≡ blockListed number (now (ledger .entry)) (now (block .entry)) .on ⌝ }
-    ensures { λ r. ⌜ r .end ≤ 512 * 210 + 110 ⌝ }
+    ensures { λ r. ⌜ r .end ≤ blockRoom ⌝ }
 {
     if number == 0 {
         return list_opening(block, ledger, out);

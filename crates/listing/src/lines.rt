@@ -9,6 +9,7 @@ ghost use lib.ListN.{length};
 ghost use Rattle.words.specs.Words.{wordsIn, placedAt};
 ghost use Rattle.listing.specs.Lines.{text, decimal, line, heading, refusedLine, cutLine};
 ghost use Rattle.listing.specs.Npalist.{poolLine};
+ghost use Rattle.listing.specs.Room.{fieldRoom, refusedRoom, cutRoom, rowRoom, poolRoom};
 
 // The heading, for every program that prints lines.
 pub const HEADING: [u8; 74] =
@@ -50,10 +51,10 @@ pub fn put_heading(out: &mut [u8], at: usize) -> usize
 
 // Writes a number and the byte that ends it.
 fn put_ended(out: &mut [u8], at: usize, v: u64, byte: u8) -> usize
-    requires { ⌜ at + 21 ≤ length (now out) ⌝ }
+    requires { ⌜ at + fieldRoom ≤ length (now out) ⌝ }
     ensures { λ _. ⌜ now (out .exit) ≡ placedAt at (decimal v ++ (byte ∷ [])) (now (out .entry)) ⌝ }
     ensures { λ r. ⌜ r ≡ at + length (decimal v ++ (byte ∷ [])) ⌝ }
-    ensures { λ r. ⌜ r ≤ at + 21 ⌝ }
+    ensures { λ r. ⌜ r ≤ at + fieldRoom ⌝ }
 {
     let end = put_decimal(out, at, v);
     put_byte(out, end, byte)
@@ -61,30 +62,30 @@ fn put_ended(out: &mut [u8], at: usize, v: u64, byte: u8) -> usize
 
 // Writes a number and a comma.
 pub fn put_field(out: &mut [u8], at: usize, v: u64) -> usize
-    requires { ⌜ at + 21 ≤ length (now out) ⌝ }
+    requires { ⌜ at + fieldRoom ≤ length (now out) ⌝ }
     ensures { λ _. ⌜ now (out .exit) ≡ placedAt at (decimal v ++ text ",") (now (out .entry)) ⌝ }
     ensures { λ r. ⌜ r ≡ at + length (decimal v ++ text ",") ⌝ }
-    ensures { λ r. ⌜ r ≤ at + 21 ⌝ }
+    ensures { λ r. ⌜ r ≤ at + fieldRoom ⌝ }
 {
     put_ended(out, at, v, b',')
 }
 
 // Writes the last number of a line and a newline.
 pub fn put_last(out: &mut [u8], at: usize, v: u64) -> usize
-    requires { ⌜ at + 21 ≤ length (now out) ⌝ }
+    requires { ⌜ at + fieldRoom ≤ length (now out) ⌝ }
     ensures { λ _. ⌜ now (out .exit) ≡ placedAt at (line (v ∷ [])) (now (out .entry)) ⌝ }
     ensures { λ r. ⌜ r ≡ at + length (line (v ∷ [])) ⌝ }
-    ensures { λ r. ⌜ r ≤ at + 21 ⌝ }
+    ensures { λ r. ⌜ r ≤ at + fieldRoom ⌝ }
 {
     put_ended(out, at, v, b'\n')
 }
 
 // Writes the line of a refused block.
 pub fn put_refused(out: &mut [u8], at: usize, block: u64, ground: u64) -> usize
-    requires { ⌜ at + 50 ≤ length (now out) ⌝ }
+    requires { ⌜ at + refusedRoom ≤ length (now out) ⌝ }
     ensures { λ _. ⌜ now (out .exit) ≡ placedAt at (refusedLine block ground) (now (out .entry)) ⌝ }
     ensures { λ r. ⌜ r ≡ at + length (refusedLine block ground) ⌝ }
-    ensures { λ r. ⌜ r ≤ at + 50 ⌝ }
+    ensures { λ r. ⌜ r ≤ at + refusedRoom ⌝ }
 {
     let first = put_text(out, at, b"refused,");
     let second = put_field(out, first, block);
@@ -93,10 +94,10 @@ pub fn put_refused(out: &mut [u8], at: usize, block: u64, ground: u64) -> usize
 
 // Writes the line of a stream that is cut off.
 pub fn put_cut(out: &mut [u8], at: usize, block: u64) -> usize
-    requires { ⌜ at + 25 ≤ length (now out) ⌝ }
+    requires { ⌜ at + cutRoom ≤ length (now out) ⌝ }
     ensures { λ _. ⌜ now (out .exit) ≡ placedAt at (cutLine block) (now (out .entry)) ⌝ }
     ensures { λ r. ⌜ r ≡ at + length (cutLine block) ⌝ }
-    ensures { λ r. ⌜ r ≤ at + 25 ⌝ }
+    ensures { λ r. ⌜ r ≤ at + cutRoom ⌝ }
 {
     let first = put_text(out, at, b"cut,");
     put_last(out, first, block)
@@ -106,10 +107,10 @@ pub fn put_cut(out: &mut [u8], at: usize, block: u64) -> usize
 pub fn put_words(out: &mut [u8], at: usize, b: &[u8], n: usize) -> usize
     requires { ⌜ 0 < n ⌝ }
     requires { ⌜ 8 * n ≤ length (now b) ⌝ }
-    requires { ⌜ at + 21 * n ≤ length (now out) ⌝ }
+    requires { ⌜ at + fieldRoom * n ≤ length (now out) ⌝ }
     ensures { λ _. ⌜ now (out .exit) ≡ placedAt at (line (wordsIn n (now (b .entry)))) (now (out .entry)) ⌝ }
     ensures { λ r. ⌜ r ≡ at + length (line (wordsIn n (now (b .entry)))) ⌝ }
-    ensures { λ r. ⌜ r ≤ at + 21 * n ⌝ }
+    ensures { λ r. ⌜ r ≤ at + fieldRoom * n ⌝ }
 {
     let last = n - 1;
     let mut to = at;
@@ -124,10 +125,10 @@ pub fn put_words(out: &mut [u8], at: usize, b: &[u8], n: usize) -> usize
 // Writes the line of a row: interval, id and the row's eight words, which begin at the front of a part of a result.
 pub fn put_row_line(out: &mut [u8], at: usize, interval: u64, id: u64, row: &[u8]) -> usize
     requires { ⌜ 64 ≤ length (now row) ⌝ }
-    requires { ⌜ at + 210 ≤ length (now out) ⌝ }
+    requires { ⌜ at + rowRoom ≤ length (now out) ⌝ }
     ensures { λ _. ⌜ now (out .exit) ≡ placedAt at (line (interval ∷ id ∷ wordsIn 8 (now (row .entry)))) (now (out .entry)) ⌝ }
     ensures { λ r. ⌜ r ≡ at + length (line (interval ∷ id ∷ wordsIn 8 (now (row .entry)))) ⌝ }
-    ensures { λ r. ⌜ r ≤ at + 210 ⌝ }
+    ensures { λ r. ⌜ r ≤ at + rowRoom ⌝ }
 {
     let first = put_field(out, at, interval);
     let second = put_field(out, first, id);
@@ -137,10 +138,10 @@ pub fn put_row_line(out: &mut [u8], at: usize, interval: u64, id: u64, row: &[u8
 // Writes the pool line of an interval: interval, ratio, charges, credits, carried.
 pub fn put_pool_line(out: &mut [u8], at: usize, interval: u64, result: &[u8]) -> usize
     requires { ⌜ 32 ≤ length (now result) ⌝ }
-    requires { ⌜ at + 110 ≤ length (now out) ⌝ }
+    requires { ⌜ at + poolRoom ≤ length (now out) ⌝ }
     ensures { λ _. ⌜ now (out .exit) ≡ placedAt at (poolLine interval (now (result .entry))) (now (out .entry)) ⌝ }
     ensures { λ r. ⌜ r ≡ at + length (poolLine interval (now (result .entry))) ⌝ }
-    ensures { λ r. ⌜ r ≤ at + 110 ⌝ }
+    ensures { λ r. ⌜ r ≤ at + poolRoom ⌝ }
 {
     let first = put_text(out, at, b"pool,");
     let second = put_field(out, first, interval);

@@ -16,6 +16,7 @@ ghost use lib.Dec.{eqb};
 ghost use Rattle.words.specs.Words.{placedAt};
 ghost use Rattle.listing.specs.Lines.{cutLine};
 ghost use Rattle.listing.specs.Npalist.{mostBytes, bytesDue, nextBlock, listed};
+ghost use Rattle.listing.specs.Room.{cutRoom, blockRoom};
 
 pub const LENGTH_BYTES: usize = 4;
 
@@ -57,10 +58,10 @@ fn over_long(number: u64) -> u64
 
 // Writes a cut if the stream ends before the opening, and nothing if it ends later.
 fn put_end(number: u64, out: &mut [u8]) -> usize
-    requires { ⌜ 25 ≤ length (now out) ⌝ }
+    requires { ⌜ cutRoom ≤ length (now out) ⌝ }
     ensures { λ _. ⌜ now (out .exit) ≡ placedAt 0 (cond (eqb number 0) (cutLine 0) []) (now (out .entry)) ⌝ }
     ensures { λ r. ⌜ r ≡ length (cond (eqb number 0) (cutLine 0) []) ⌝ }
-    ensures { λ r. ⌜ r ≤ 25 ⌝ }
+    ensures { λ r. ⌜ r ≤ cutRoom ⌝ }
 {
     if number == 0 {
         return put_cut(out, 0, 0);
@@ -86,12 +87,12 @@ pub fn list_next(
 ) -> Listed
     requires { ⌜ length (now ledger) ≡ 64 + 32 * 512 ⌝ }
     requires { ⌜ length (now result) ≡ 64 + 64 * 512 ⌝ }
-    requires { ⌜ 512 * 210 + 110 ≤ length (now out) ⌝ }
+    requires { ⌜ blockRoom ≤ length (now out) ⌝ }
     ensures { λ _. ⌜ now (ledger .exit) ≡ listed number (now (ledger .entry)) (nextBlock (mostBytes number) (now (s .entry))) .ledger ⌝ }
     ensures { λ _. ⌜ now (out .exit) ≡ placedAt 0 (listed number (now (ledger .entry)) (nextBlock (mostBytes number) (now (s .entry))) .printed) (now (out .entry)) ⌝ }
     ensures { λ r. ⌜ r .end ≡ length (listed number (now (ledger .entry)) (nextBlock (mostBytes number) (now (s .entry))) .printed) ⌝ }
     ensures { λ r. ⌜ r .on ≡ listed number (now (ledger .entry)) (nextBlock (mostBytes number) (now (s .entry))) .on ⌝ }
-    ensures { λ r. ⌜ r .end ≤ 512 * 210 + 110 ⌝ }
+    ensures { λ r. ⌜ r .end ≤ blockRoom ⌝ }
 {
     let came = s.len();
     if came == 0 {

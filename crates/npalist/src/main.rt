@@ -11,9 +11,19 @@ ghost use Prim.Native.Nat.{_+_, _*_, _≤_};
 ghost use lib.ListN.{length, take};
 ghost use Rattle.words.specs.Words.{placedAt};
 ghost use Rattle.listing.specs.Npalist.{mostBytes, bytesDue, nextBlock, listed};
+ghost use Rattle.listing.specs.Room.{blockRoom};
 
 // A loop that is proved has to end, and nothing says that standard input does: no stream has so many blocks.
 const MOST_BLOCKS: u64 = 1099511627776;
+
+// The buffers: a length and the longest block, a ledger of the most accounts, a result of the most rows, and the lines of such a file.
+const STREAM_BYTES: usize = 4 + 49152;
+
+const LEDGER_BYTES: usize = 64 + 32 * 512;
+
+const RESULT_BYTES: usize = 64 + 64 * 512;
+
+const LINES_BYTES: usize = 512 * 210 + 110;
 
 // What came from the stream and what it comes to: the end of the bytes to print, and whether the listing goes on.
 struct Step {
@@ -48,13 +58,13 @@ fn next_step(
     requires { ⌜ length (now stream) ≡ 4 + 49152 ⌝ }
     requires { ⌜ length (now ledger) ≡ 64 + 32 * 512 ⌝ }
     requires { ⌜ length (now result) ≡ 64 + 64 * 512 ⌝ }
-    requires { ⌜ 512 * 210 + 110 ≤ length (now out) ⌝ }
+    requires { ⌜ blockRoom ≤ length (now out) ⌝ }
     ensures { λ r. ⌜ now (ledger .exit) ≡ listed number (now (ledger .entry)) (nextBlock (mostBytes number) (take (r .came) (now (stream .exit)))) .ledger ⌝ }
     ensures { λ r. ⌜ now (out .exit) ≡ placedAt 0 (listed number (now (ledger .entry)) (nextBlock (mostBytes number) (take (r .came) (now (stream .exit)))) .printed) (now (out .entry)) ⌝ }
     ensures { λ r. ⌜ r .end ≡ length (listed number (now (ledger .entry)) (nextBlock (mostBytes number) (take (r .came) (now (stream .exit)))) .printed) ⌝ }
     ensures { λ r. ⌜ r .on ≡ listed number (now (ledger .entry)) (nextBlock (mostBytes number) (take (r .came) (now (stream .exit)))) .on ⌝ }
     ensures { λ r. ⌜ r .came ≤ 4 + bytesDue number (take 4 (now (stream .exit))) ⌝ }
-    ensures { λ r. ⌜ r .end ≤ 512 * 210 + 110 ⌝ }
+    ensures { λ r. ⌜ r .end ≤ blockRoom ⌝ }
 {
     let came = read_next(number, stream);
     let next = list_next(number, &stream[..came], ledger, result, out);
@@ -77,7 +87,7 @@ fn run(stream: &mut [u8], ledger: &mut [u8], result: &mut [u8], out: &mut [u8])
     requires { ⌜ length (now stream) ≡ 4 + 49152 ⌝ }
     requires { ⌜ length (now ledger) ≡ 64 + 32 * 512 ⌝ }
     requires { ⌜ length (now result) ≡ 64 + 64 * 512 ⌝ }
-    requires { ⌜ 512 * 210 + 110 ≤ length (now out) ⌝ }
+    requires { ⌜ blockRoom ≤ length (now out) ⌝ }
 {
     let end = put_heading(out, 0);
     if !print(out, end) {
@@ -97,9 +107,9 @@ fn run(stream: &mut [u8], ledger: &mut [u8], result: &mut [u8], out: &mut [u8])
 }
 
 fn main() {
-    let mut stream = [0u8; 49156];
-    let mut ledger = [0u8; 16448];
-    let mut result = [0u8; 32832];
-    let mut out = [0u8; 107630];
+    let mut stream = [0u8; STREAM_BYTES];
+    let mut ledger = [0u8; LEDGER_BYTES];
+    let mut result = [0u8; RESULT_BYTES];
+    let mut out = [0u8; LINES_BYTES];
     run(&mut stream, &mut ledger, &mut result, &mut out);
 }

@@ -38,6 +38,16 @@ const MOST_NUMERATOR: u64 = 1099511627776;
 // What is printed of a case that the code does not take.
 const NOT_TAKEN: u64 = 18446744073709551615;
 
+// A row, and up to ten points behind it.
+fn case_of(row: Row, points: &[u64]) -> [u8; 136]
+    requires { ⌜ length (now points) ≤ 20 ⌝ }
+{
+    let mut case = [0u8; 136];
+    put_words(&mut case, 0, &row);
+    put_words(&mut case, ROW_BYTES, points);
+    case
+}
+
 fn scheduled_kw(case: &[u8]) -> u64
     requires { ⌜ 56 ≤ length (now case) ⌝ }
 {
@@ -109,10 +119,7 @@ pub fn show_scheduled(label: &[u8], row: Row, points: &[u64])
     requires { ⌜ length (now label) ≤ 64 ⌝ }
     requires { ⌜ length (now points) ≤ 20 ⌝ }
 {
-    let mut case = [0u8; 136];
-    put_words(&mut case, 0, &row);
-    put_words(&mut case, ROW_BYTES, points);
-    figure(label, scheduled_kw(&case));
+    figure(label, scheduled_kw(&case_of(row, points)));
 }
 
 // Prints whether a row is considered.
@@ -120,10 +127,7 @@ pub fn show_considered(label: &[u8], row: Row, points: &[u64])
     requires { ⌜ length (now label) ≤ 64 ⌝ }
     requires { ⌜ length (now points) ≤ 20 ⌝ }
 {
-    let mut case = [0u8; 136];
-    put_words(&mut case, 0, &row);
-    put_words(&mut case, ROW_BYTES, points);
-    test(label, is_considered(&case));
+    test(label, is_considered(&case_of(row, points)));
 }
 
 // Prints the six figures of a row at a ratio.
@@ -137,10 +141,10 @@ pub fn show_figures(
     requires { ⌜ length (now label) ≤ 64 ⌝ }
     requires { ⌜ length (now points) ≤ 20 ⌝ }
 {
-    let mut case = [0u8; 136];
-    put_words(&mut case, 0, &row);
-    put_words(&mut case, ROW_BYTES, points);
-    six(label, figures_of(&case, numerator, denominator));
+    six(
+        label,
+        figures_of(&case_of(row, points), numerator, denominator),
+    );
 }
 
 // Prints whether ground 13 applies to a row.

@@ -7,6 +7,7 @@ use Rattle.words.specs.Words.{placedAt}
 use Rattle.reading.specs.Interval.{headerOf, rowsOf}
 use Rattle.settling.proofs.SettlingTests.{row-id}
 use Rattle.listing.specs.Npalist.{rowLines}
+use Rattle.listing.specs.Room.{rowRoom}
 use Rattle.listing.proofs.BlockLaws.{linesLeft, lines-start, row-turn, row-end}
 use native.Mathlib.Omega.{arith}
 use borrow.Author.Needs.{needs}
@@ -20,7 +21,7 @@ Inv-loop out₀ at file result interval rows first to₀ i₀ out to i =
     × (first ≡ headerOf file .rowsOffset)
     × (placedAt to (linesLeft file result interval i) out ≡ placedAt at (rowLines interval (rowsOf file) (drop 64 result)) out₀)
     × (to + length (linesLeft file result interval i) ≡ at + length (rowLines interval (rowsOf file) (drop 64 result)))
-    × (to ≤ at + 210 * i)
+    × (to ≤ at + rowRoom * i)
     × (length out ≡ length out₀)
 
 abbrev μ-loop : tie.MeasureT-loop

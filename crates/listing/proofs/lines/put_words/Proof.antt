@@ -7,6 +7,7 @@ use borrow.Author.Needs.{needs}
 use lib.ListN.{length, drop}
 use Rattle.words.specs.Words.{wordsIn, placedAt}
 use Rattle.listing.specs.Lines.{line}
+use Rattle.listing.specs.Room.{fieldRoom}
 use Rattle.listing.proofs.LineLaws.{words-turn, words-end}
 use Rattle.listing.proofs.lines.put_words.Statement.{statement}
 use Rattle.listing.proofs.lines.put_words.Tie as tie
@@ -16,7 +17,7 @@ Inv-loop out₀ at b n last to₀ i₀ out to i =
     (i ≤ last)
     × (placedAt to (line (wordsIn (n - i) (drop (8 * i) b))) out ≡ placedAt at (line (wordsIn n b)) out₀)
     × (to + length (line (wordsIn (n - i) (drop (8 * i) b))) ≡ at + length (line (wordsIn n b)))
-    × (to ≤ at + 21 * i)
+    × (to ≤ at + fieldRoom * i)
     × (length out ≡ length out₀)
 
 abbrev μ-loop : tie.MeasureT-loop
