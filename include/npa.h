@@ -1,5 +1,5 @@
 /*
- * The settlement module, for callers in C and C++.
+ * The settlement module, for callers in C and C++. docs/FORMATS.md has the layout of every buffer.
  *
  * A call is lent byte buffers, each a pointer and a length in bytes, at any address. It answers NPA_OK or
  * the first refusal, in the order below, that applies.
