@@ -1,9 +1,10 @@
 //! From text to a stream.
 
 use crate::line::{Fault, Line};
-use crate::names::{Sign, HEADER_BYTES, KINDS, OPENING_BYTES, POINT_BYTES, ROW_BYTES, ROW_WORDS};
-use npa_tests::layout::{IntervalFile, Opening};
-use npa_tests::random::push_block;
+use crate::names::{Sign, KINDS, ROW_WORDS};
+use npa_tests::layout::{
+    push_block, IntervalFile, Opening, HEADER_BYTES, OPENING_BYTES, POINT_BYTES, ROW_BYTES,
+};
 
 /// The longest block that a text may describe.
 const LENGTH_MOST: usize = 1 << 20;
