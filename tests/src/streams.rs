@@ -124,39 +124,41 @@ fn full_pool() -> Vec<u8> {
 
 /// Blocks with lengths at, below and over each limit: whole, cut behind the length, and cut inside.
 pub fn lengths() -> Vec<Case> {
-    let whole = two_intervals();
-    let opening = stream_of(&[&listing::opening().bytes()]);
-    let mut cases = Vec::new();
     let far = [1 << 16, 1 << 24, 1 << 31, u32::MAX];
-    for length in [
-        &[0, 1, 19, 20, 35, 36, 37, 4095, 4096, 4097, 49_152][..],
-        &far,
-    ]
-    .concat()
-    {
-        let mut block = listing::opening();
-        block.length = length.min(100_000) as usize;
-        cases.extend(at_length(
-            "opening",
-            &[],
-            &block.bytes(),
-            length,
-            &whole[opening.len()..],
-        ));
+    let openings = [0, 1, 19, 20, 35, 36, 37, 4095, 4096, 4097, 49_152];
+    let files = [0, 1, 39, 40, 41, 311, 312, 313, 49_151, 49_152, 49_153];
+    let mut cases = Vec::new();
+    for length in openings.into_iter().chain(far) {
+        cases.extend(openings_of(length));
     }
-    for length in [
-        &[0, 1, 39, 40, 41, 311, 312, 313, 49_151, 49_152, 49_153][..],
-        &far,
-    ]
-    .concat()
-    {
-        let mut file = listing::file(1002);
-        file.length = length.min(100_000) as usize;
-        let behind = stream_of(&[&listing::file(1003).bytes()]);
-        cases.extend(at_length("file", &whole, &file.bytes(), length, &behind));
+    for length in files.into_iter().chain(far) {
+        cases.extend(files_of(length));
     }
     cases.push(Case::new("limits reached", at_the_limits()));
     cases
+}
+
+/// Blocks one byte over each limit, whose lengths end a listing.
+pub fn too_long() -> Vec<Case> {
+    let mut cases = openings_of(BLOCK_MOST as u32 + 1);
+    cases.extend(files_of(FILE_MOST as u32 + 1));
+    cases
+}
+
+/// The opening of document 01 with this length.
+fn openings_of(length: u32) -> Vec<Case> {
+    let mut opening = listing::opening();
+    let files = &two_intervals()[4 + opening.length..];
+    opening.length = length.min(100_000) as usize;
+    at_length("opening", &[], &opening.bytes(), length, files)
+}
+
+/// The file of document 01 with this length, behind two and before one that have their own.
+fn files_of(length: u32) -> Vec<Case> {
+    let mut file = listing::file(1002);
+    file.length = length.min(100_000) as usize;
+    let behind = stream_of(&[&listing::file(1003).bytes()]);
+    at_length("file", &two_intervals(), &file.bytes(), length, &behind)
 }
 
 /// A block that is to have this length, between other bytes of a stream.
