@@ -2,6 +2,50 @@
 //!
 //! Counts, offsets and lengths are fields of their own, so that a test can set
 //! them against what is really there. What does not fit is not written.
+//! Sizes and limits stand here once; the reference has its own.
+
+/// The bytes of an opening block before any ids, of a header, a row and a point.
+pub const OPENING_BYTES: usize = 20;
+pub const HEADER_BYTES: usize = 40;
+pub const ROW_BYTES: usize = 56;
+pub const POINT_BYTES: usize = 8;
+
+/// The longest opening block and the longest file.
+pub const BLOCK_MOST: usize = 4096;
+pub const FILE_MOST: usize = 49_152;
+
+/// The most ids of a block, rows of a file, points of a file and points of a row.
+pub const IDS_MOST: usize = 512;
+pub const ROWS_MOST: usize = 512;
+pub const POINTS_MOST: usize = 2048;
+pub const ROW_POINTS_MOST: usize = 10;
+
+/// The largest kW of a row, price and imports; where signed, also the least with its sign turned.
+pub const KW_MOST: u32 = 4_000_000;
+pub const PRICE_MOST: i32 = 1_000_000;
+pub const IMPORTS_MOST: i32 = 40_000_000;
+
+/// The largest pool and the largest credited sum of an account, in cents.
+pub const POOL_MOST: u64 = 1_099_511_627_775;
+pub const CREDITED_MOST: u64 = 224_870_400_000_000;
+
+/// The intervals of a day.
+pub const DAY_INTERVALS: u32 = 288;
+
+/// The ledger bytes of so many accounts.
+pub fn ledger_bytes(accounts: usize) -> usize {
+    64 + 32 * accounts
+}
+
+/// The result bytes of so many rows.
+pub fn result_bytes(rows: usize) -> usize {
+    64 + 64 * rows
+}
+
+/// The most cents that an account may be charged for a commitment.
+pub fn limit(net_cone: u64, days: u64, commitment: u64) -> u64 {
+    (3 * u128::from(net_cone) * u128::from(days) * u128::from(commitment) / 2000) as u64
+}
 
 /// Writes bytes at an offset, as far as the buffer reaches.
 fn put(buffer: &mut [u8], at: usize, bytes: &[u8]) {
@@ -57,12 +101,12 @@ impl Opening {
     /// A block with the ids right behind the first words.
     pub fn new(net_cone: u32, days: u32, ids: &[u32]) -> Self {
         let mut opening = Opening {
-            words: [1, net_cone, days, ids.len() as u32, 20],
+            words: [1, net_cone, days, ids.len() as u32, 0],
             ids: ids.to_vec(),
-            ids_at: 20,
+            ids_at: 0,
             length: 0,
         };
-        opening.place(20, 0);
+        opening.place(OPENING_BYTES, 0);
         opening
     }
 
@@ -101,7 +145,7 @@ impl Ledger {
         Ledger {
             words: [1, net_cone.into(), days.into(), 0, 0, count, 8, 0],
             accounts: ids.iter().map(|id| [u64::from(*id), 0, 0, 0]).collect(),
-            length: 64 + 32 * ids.len(),
+            length: ledger_bytes(ids.len()),
         }
     }
 
@@ -114,7 +158,7 @@ impl Ledger {
     pub fn over(&self, mut buffer: Vec<u8>) -> Vec<u8> {
         put_longs(&mut buffer, 0, &self.words);
         for (index, account) in self.accounts.iter().enumerate() {
-            put_longs(&mut buffer, 64 + 32 * index, account);
+            put_longs(&mut buffer, ledger_bytes(index), account);
         }
         buffer
     }
@@ -194,19 +238,24 @@ impl IntervalFile {
             points_at: 0,
             length: 0,
         };
-        let end = 40 + file.row_bytes();
-        file.place(40, end, end + file.point_bytes());
+        file.place_plainly();
         file
     }
 
     /// The bytes of the rows.
     pub fn row_bytes(&self) -> usize {
-        56 * self.rows.len()
+        ROW_BYTES * self.rows.len()
     }
 
     /// The bytes of the points.
     pub fn point_bytes(&self) -> usize {
-        8 * self.points.len()
+        POINT_BYTES * self.points.len()
+    }
+
+    /// Puts the rows behind the header and the points behind the rows.
+    pub fn place_plainly(&mut self) {
+        let points_at = HEADER_BYTES + self.row_bytes();
+        self.place(HEADER_BYTES, points_at, points_at + self.point_bytes());
     }
 
     /// Puts both tables at offsets and says so in the header.
@@ -228,12 +277,27 @@ impl IntervalFile {
     /// The file, with gaps as they are in the buffer.
     pub fn over(&self, mut buffer: Vec<u8>) -> Vec<u8> {
         for (index, point) in self.points.iter().enumerate() {
-            put_words(&mut buffer, self.points_at + 8 * index, point);
+            put_words(&mut buffer, self.points_at + POINT_BYTES * index, point);
         }
         for (index, row) in self.rows.iter().enumerate() {
-            put_words(&mut buffer, self.rows_at + 56 * index, row);
+            put_words(&mut buffer, self.rows_at + ROW_BYTES * index, row);
         }
         put_words(&mut buffer, 0, &self.head);
         buffer
     }
+}
+
+/// Adds a block to a stream, behind its length.
+pub fn push_block(stream: &mut Vec<u8>, block: &[u8]) {
+    stream.extend((block.len() as u32).to_le_bytes());
+    stream.extend(block);
+}
+
+/// A stream of blocks, each behind its length.
+pub fn stream_of(blocks: &[&[u8]]) -> Vec<u8> {
+    let mut stream = Vec::new();
+    for block in blocks {
+        push_block(&mut stream, block);
+    }
+    stream
 }

@@ -32,8 +32,8 @@ pub enum Output {
     Pipe,
     /// Through a pipe, in pieces of up to so many bytes with a pause behind each.
     Slow(usize),
-    /// Through a pipe that is full at times, when the program is stopped and goes on: a write then moves
-    /// less than it was given.
+    /// Through a pipe that is full at times, when the program is stopped and goes on: a write that had begun
+    /// then moves less than it was given.
     Interrupted,
 }
 
@@ -65,6 +65,8 @@ pub struct Program {
     folder: PathBuf,
     /// How long a run may take.
     pub patience: Duration,
+    /// The writes that were seen to move less than they were given.
+    short_writes: AtomicU64,
 }
 
 impl Program {
@@ -78,7 +80,13 @@ impl Program {
             path: path.to_path_buf(),
             folder,
             patience: Duration::from_secs(20),
+            short_writes: AtomicU64::new(0),
         })
+    }
+
+    /// How many writes of runs so far were seen to move less than they were given.
+    pub fn short_writes(&self) -> u64 {
+        self.short_writes.load(Ordering::Relaxed)
     }
 
     /// What the program writes for an input, if it ends by itself.
@@ -93,7 +101,7 @@ impl Program {
             if let Some(pipe) = child.stdin.take() {
                 scope.spawn(move || feed(pipe, stream, input, &until));
             }
-            let outcome = self.outcome(&mut child, |from| take(from, id, output));
+            let outcome = self.outcome(&mut child, |from| self.take(from, id, output));
             drop(ended);
             outcome
         })?;
@@ -198,6 +206,38 @@ impl Program {
         child.wait().map_err(text)?;
         Err(format!("it did not end in {:?}", self.patience))
     }
+
+    /// Takes the output to its end.
+    fn take(&self, mut from: ChildStdout, id: u32, output: Output) -> io::Result<Vec<u8>> {
+        let mut taken = Vec::new();
+        match output {
+            Output::Pipe => (),
+            Output::Slow(most) => {
+                let mut piece = vec![0; most];
+                loop {
+                    pause(50);
+                    match from.read(&mut piece)? {
+                        0 => return Ok(taken),
+                        count => taken.extend(&piece[..count]),
+                    }
+                }
+            }
+            Output::Interrupted => {
+                for _ in 0..8 {
+                    pause(20_000);
+                    let before = Writing::of(id)?;
+                    signal(id, "STOP")?;
+                    signal(id, "CONT")?;
+                    pause(2_000);
+                    let short = Writing::of(id)?.follows_short(before);
+                    self.short_writes.fetch_add(short.into(), Ordering::Relaxed);
+                    (&mut from).take(5_000).read_to_end(&mut taken)?;
+                }
+            }
+        }
+        taken.extend(read(from)?);
+        Ok(taken)
+    }
 }
 
 impl Drop for Program {
@@ -243,34 +283,6 @@ fn feed(mut pipe: ChildStdin, stream: &[u8], input: Input, until: &Receiver<()>)
     }
 }
 
-/// Takes the output to its end.
-fn take(mut from: ChildStdout, id: u32, output: Output) -> io::Result<Vec<u8>> {
-    let mut taken = Vec::new();
-    match output {
-        Output::Pipe => (),
-        Output::Slow(most) => {
-            let mut piece = vec![0; most];
-            loop {
-                pause(50);
-                match from.read(&mut piece)? {
-                    0 => return Ok(taken),
-                    count => taken.extend(&piece[..count]),
-                }
-            }
-        }
-        Output::Interrupted => {
-            for _ in 0..8 {
-                pause(20_000);
-                signal(id, "STOP")?;
-                signal(id, "CONT")?;
-                (&mut from).take(5_000).read_to_end(&mut taken)?;
-            }
-        }
-    }
-    taken.extend(read(from)?);
-    Ok(taken)
-}
-
 /// All that is left to read.
 fn read(mut from: impl Read) -> io::Result<Vec<u8>> {
     let mut bytes = Vec::new();
@@ -286,5 +298,33 @@ fn signal(id: u32, name: &str) -> io::Result<()> {
     match status.success() {
         true => Ok(()),
         false => Err(io::Error::other(format!("kill -s {name}: {status}"))),
+    }
+}
+
+/// The call of `write` in which a program waits for room, if it does: where its bytes begin and how many they are.
+#[derive(Clone, Copy)]
+struct Writing(Option<(u64, u64)>);
+
+impl Writing {
+    /// The number of the call on x86-64.
+    const CALL: u64 = 1;
+
+    /// What the system says of a child that was not waited for.
+    fn of(id: u32) -> io::Result<Self> {
+        let said = fs::read_to_string(format!("/proc/{id}/syscall"))?;
+        let number = |word: &str| match word.strip_prefix("0x") {
+            Some(digits) => u64::from_str_radix(digits, 16).ok(),
+            None => word.parse().ok(),
+        };
+        let numbers: Vec<u64> = said.split_whitespace().map_while(number).collect();
+        Ok(Writing(match numbers[..] {
+            [Self::CALL, _, from, count, ..] => Some((from, count)),
+            _ => None,
+        }))
+    }
+
+    /// Whether the write that waited before is over though nobody took a byte: it moved less than it was given.
+    fn follows_short(self, before: Self) -> bool {
+        self.0.is_some() && before.0.is_some() && self.0 != before.0
     }
 }

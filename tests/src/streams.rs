@@ -1,15 +1,17 @@
 //! Streams for the listing program: whole, refused at every ground, cut everywhere, at every limit, and long.
 
-use crate::layout::{IntervalFile, Ledger, Opening, Row};
+use crate::layout::{
+    ledger_bytes, push_block, result_bytes, stream_of, IntervalFile, Ledger, Opening, Row,
+    BLOCK_MOST, DAY_INTERVALS, FILE_MOST, HEADER_BYTES, IDS_MOST, KW_MOST, POINTS_MOST, ROWS_MOST,
+};
 use crate::listing;
 use crate::random::{
-    self, damage_settle, damaged_open, first_made, push_block, Rng, SettleCase, World, FULL,
-    MIDDLE, SMALL,
+    self, damage_settle, damaged_open, first_made, Rng, SettleCase, World, FULL, MIDDLE, SMALL,
 };
 use crate::reference::{npalist, open};
 
 /// The points of each row in a full file, which then has as many as there may be.
-pub const ROW_POINTS: usize = 4;
+pub const ROW_POINTS: usize = POINTS_MOST / ROWS_MOST;
 
 /// A stream and what it is called.
 pub struct Case {
@@ -22,15 +24,6 @@ impl Case {
         let name = name.into();
         Case { name, stream }
     }
-}
-
-/// A stream of blocks, each behind its length.
-pub fn stream_of(blocks: &[&[u8]]) -> Vec<u8> {
-    let mut stream = Vec::new();
-    for block in blocks {
-        push_block(&mut stream, block);
-    }
-    stream
 }
 
 /// The stream of document 01's listing.
@@ -60,7 +53,7 @@ pub fn refused_openings(rng: &mut Rng, each: usize) -> Vec<Case> {
             let name = format!("opening refused by {ground}, number {number}");
             let block = first_made(&name, || {
                 let block = damaged_open(rng, &FULL, ground).call(rng).block;
-                let answer = open(&block, &mut vec![0; 16_448]);
+                let answer = open(&block, &mut vec![0; ledger_bytes(IDS_MOST)]);
                 (answer == ground).then_some(block)
             });
             cases.push(Case::new(name, stream_of(&[&block, &file])));
@@ -90,7 +83,7 @@ fn refused_in_the_middle(rng: &mut Rng, ground: u32) -> Vec<u8> {
         let mut case = SettleCase {
             ledger: Ledger::new(world.net_cone, world.days, &world.ids),
             file: world.file(rng, &MIDDLE, 11),
-            result_length: 64 + 64 * 512,
+            result_length: result_bytes(ROWS_MOST),
         };
         damage_settle(rng, &MIDDLE, ground, &mut case);
         if ground == 10 {
@@ -111,58 +104,61 @@ fn refused_in_the_middle(rng: &mut Rng, ground: u32) -> Vec<u8> {
 
 /// Two intervals that fill the pool, one too many, and a smaller one in its place.
 fn full_pool() -> Vec<u8> {
-    let ids: Vec<u32> = (1..=512).collect();
+    let ids: Vec<u32> = (1..=IDS_MOST as u32).collect();
     let file = |interval: u32, rows: usize| {
         let row = |id: &u32| Row {
             id: *id,
             kind: 1,
-            committed: 4_000_000,
+            committed: KW_MOST,
             ..Row::default()
         };
         let rows = ids[..rows].iter().map(|id| row(id).words()).collect();
         IntervalFile::new(200_000, 366, interval, rows, Vec::new()).bytes()
     };
     let opening = Opening::new(200_000, 366, &ids).bytes();
-    let files = [file(0, 512), file(1, 512), file(2, 512), file(2, 100)];
+    let all = ids.len();
+    let files = [file(0, all), file(1, all), file(2, all), file(2, 100)];
     let files = files.each_ref().map(|file| &file[..]);
     stream_of(&[&[&opening[..]], &files[..]].concat())
 }
 
 /// Blocks with lengths at, below and over each limit: whole, cut behind the length, and cut inside.
 pub fn lengths() -> Vec<Case> {
-    let whole = two_intervals();
-    let opening = stream_of(&[&listing::opening().bytes()]);
-    let mut cases = Vec::new();
     let far = [1 << 16, 1 << 24, 1 << 31, u32::MAX];
-    for length in [
-        &[0, 1, 19, 20, 35, 36, 37, 4095, 4096, 4097, 49_152][..],
-        &far,
-    ]
-    .concat()
-    {
-        let mut block = listing::opening();
-        block.length = length.min(100_000) as usize;
-        cases.extend(at_length(
-            "opening",
-            &[],
-            &block.bytes(),
-            length,
-            &whole[opening.len()..],
-        ));
+    let openings = [0, 1, 19, 20, 35, 36, 37, 4095, 4096, 4097, 49_152];
+    let files = [0, 1, 39, 40, 41, 311, 312, 313, 49_151, 49_152, 49_153];
+    let mut cases = Vec::new();
+    for length in openings.into_iter().chain(far) {
+        cases.extend(openings_of(length));
     }
-    for length in [
-        &[0, 1, 39, 40, 41, 311, 312, 313, 49_151, 49_152, 49_153][..],
-        &far,
-    ]
-    .concat()
-    {
-        let mut file = listing::file(1002);
-        file.length = length.min(100_000) as usize;
-        let behind = stream_of(&[&listing::file(1003).bytes()]);
-        cases.extend(at_length("file", &whole, &file.bytes(), length, &behind));
+    for length in files.into_iter().chain(far) {
+        cases.extend(files_of(length));
     }
     cases.push(Case::new("limits reached", at_the_limits()));
     cases
+}
+
+/// Blocks one byte over each limit, whose lengths end a listing.
+pub fn too_long() -> Vec<Case> {
+    let mut cases = openings_of(BLOCK_MOST as u32 + 1);
+    cases.extend(files_of(FILE_MOST as u32 + 1));
+    cases
+}
+
+/// The opening of document 01 with this length.
+fn openings_of(length: u32) -> Vec<Case> {
+    let mut opening = listing::opening();
+    let files = &two_intervals()[4 + opening.length..];
+    opening.length = length.min(100_000) as usize;
+    at_length("opening", &[], &opening.bytes(), length, files)
+}
+
+/// The file of document 01 with this length, behind two and before one that have their own.
+fn files_of(length: u32) -> Vec<Case> {
+    let mut file = listing::file(1002);
+    file.length = length.min(100_000) as usize;
+    let behind = stream_of(&[&listing::file(1003).bytes()]);
+    at_length("file", &two_intervals(), &file.bytes(), length, &behind)
 }
 
 /// A block that is to have this length, between other bytes of a stream.
@@ -179,14 +175,14 @@ fn at_length(name: &str, before: &[u8], block: &[u8], length: u32, behind: &[u8]
     cases.into_iter().map(case).collect()
 }
 
-/// The longest opening with the most ids, and the longest file with the most rows and points, which all names.
+/// The longest opening with the most ids, and the longest file with the most rows and points, each point of some row.
 fn at_the_limits() -> Vec<u8> {
     let world = World::full();
     let mut opening = Opening::new(world.net_cone, world.days, &world.ids);
-    opening.place(4096 - 4 * 512, 0);
+    opening.place(BLOCK_MOST - 4 * IDS_MOST, 0);
     let mut file = world.full_file(&mut Rng::new(1), 0, ROW_POINTS);
-    file.place(40 + 8 * 2048, 40, 49_152);
-    let last = world.full_file(&mut Rng::new(2), 288 * 365 - 1, ROW_POINTS);
+    file.place(HEADER_BYTES + file.point_bytes(), HEADER_BYTES, FILE_MOST);
+    let last = world.full_file(&mut Rng::new(2), DAY_INTERVALS * world.days - 1, ROW_POINTS);
     stream_of(&[&opening.bytes(), &file.bytes(), &last.bytes()])
 }
 

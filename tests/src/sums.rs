@@ -1,6 +1,6 @@
 //! The sums of a year, as document 01 takes them from the results of accepted calls.
 
-use crate::layout::{long_at, word_at};
+use crate::layout::{self, long_at, word_at, ROW_BYTES};
 use std::collections::BTreeMap;
 
 /// An accepted call: its file and the bytes around it.
@@ -14,7 +14,7 @@ pub struct Accepted<'a> {
 /// What an accepted call gave one row.
 struct GivenRow {
     id: u32,
-    committed: u128,
+    committed: u32,
     shortfall: u128,
     bonus: u128,
     charge: u128,
@@ -24,7 +24,7 @@ struct GivenRow {
 /// What the accepted calls of a year gave one plant.
 #[derive(Default)]
 struct Plant {
-    commitment: u128,
+    commitment: u32,
     charges: u128,
     credits: u128,
 }
@@ -51,8 +51,9 @@ fn short_word(bytes: &[u8], at: usize) -> u32 {
 }
 
 /// The limit by the ledger's terms.
-fn limit(ledger: &[u8], commitment: u128) -> u128 {
-    3 * word(ledger, 1) * word(ledger, 2) * commitment / 2000
+fn limit(ledger: &[u8], commitment: u32) -> u128 {
+    let [net_cone, days] = [1, 2].map(|term| long_at(ledger, term).expect("the word is there"));
+    layout::limit(net_cone, days, commitment.into()).into()
 }
 
 /// Says what does not hold.
@@ -70,11 +71,11 @@ impl Accepted<'_> {
         let count = short_word(self.file, 24) as usize;
         let rows_at = short_word(self.file, 28) as usize;
         let row = |index: usize| {
-            let at = rows_at + 56 * index;
+            let at = rows_at + ROW_BYTES * index;
             let figure = |number: usize| word(self.result, 8 + 8 * index + number);
             GivenRow {
                 id: short_word(self.file, at),
-                committed: short_word(self.file, at + 8).into(),
+                committed: short_word(self.file, at + 8),
                 shortfall: figure(4),
                 bonus: figure(5),
                 charge: figure(6),
@@ -169,7 +170,7 @@ impl Sums {
             let account: [u128; 4] = std::array::from_fn(|i| word(ledger, 8 + 4 * index + i));
             let rows = [
                 u128::from(*id),
-                plant.commitment,
+                plant.commitment.into(),
                 plant.charges,
                 plant.credits,
             ];

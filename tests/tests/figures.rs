@@ -1,14 +1,16 @@
 //! The figures the trade gave, each through opening, settling or listing.
 
-use npa_tests::layout::{long_at, point, IntervalFile, Ledger, Opening, Row};
+use npa_tests::layout::{
+    ledger_bytes, long_at, point, result_bytes, stream_of, IntervalFile, Ledger, Opening, Row,
+};
 use npa_tests::listing::{self, curve_a, DAYS, IDS, NET_CONE};
 use npa_tests::reference::{npalist, open, settle, HEADING};
-use npa_tests::streams::{document, stream_of};
+use npa_tests::streams::document;
 
 /// Settles one file into a ledger; the answer, the row words and the interval words.
 fn settled(ledger: &Ledger, file: &IntervalFile) -> (u32, Vec<[u64; 8]>, [u64; 8]) {
     let mut ledger = ledger.bytes();
-    let mut result = vec![0xaa; 64 + 64 * file.rows.len()];
+    let mut result = vec![0xaa; result_bytes(file.rows.len())];
     let ground = settle(&mut ledger, &file.bytes(), &mut result);
     let words = |group: usize| std::array::from_fn(|i| long_at(&result, 8 * group + i).unwrap());
     let rows = (1..=file.rows.len()).map(words).collect();
@@ -176,7 +178,7 @@ pool,1000,866673,557628,557627,1
 
 /// The example's ledger as opening leaves it.
 fn example_ledger() -> Vec<u8> {
-    let mut ledger = vec![0xaa; 64 + 32 * 4];
+    let mut ledger = vec![0xaa; ledger_bytes(4)];
     assert_eq!(open(&listing::opening().bytes(), &mut ledger), 0);
     assert_eq!(ledger, Ledger::new(NET_CONE, DAYS, &IDS).bytes());
     ledger

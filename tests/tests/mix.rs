@@ -1,6 +1,6 @@
 //! Random calls: no panic, nothing written on refusal, and a wide mix.
 
-use npa_tests::layout::{long_at, word_at};
+use npa_tests::layout::{ledger_bytes, long_at, result_bytes, word_at, POINTS_MOST, ROW_BYTES};
 use npa_tests::random::{
     first_made, long_open, long_settle, open_call, settle_call, stream, OpenCall, Rng, RunningYear,
     SettleCall, Size, FULL, MIDDLE, SMALL,
@@ -14,7 +14,7 @@ fn checked_open(call: &OpenCall) -> u32 {
     let ground = open(&call.block, &mut ledger);
     assert!(ground <= 5);
     if ground == 0 {
-        let end = 64 + 32 * long_at(&ledger, 5).unwrap() as usize;
+        let end = ledger_bytes(long_at(&ledger, 5).unwrap() as usize);
         assert_eq!(ledger[end..], call.ledger[end..]);
     } else {
         assert_eq!(ledger, call.ledger);
@@ -29,9 +29,9 @@ fn checked_settle(call: &SettleCall) -> (u32, Vec<u8>) {
     let ground = settle(&mut ledger, &call.file, &mut result);
     assert!(ground == 0 || (6..=16).contains(&ground));
     if ground == 0 {
-        let end = 64 + 32 * long_at(&ledger, 5).unwrap() as usize;
+        let end = ledger_bytes(long_at(&ledger, 5).unwrap() as usize);
         assert_eq!(ledger[end..], call.ledger[end..]);
-        let end = 64 + 64 * long_at(&result, 7).unwrap() as usize;
+        let end = result_bytes(long_at(&result, 7).unwrap() as usize);
         assert_eq!(result[end..], call.result[end..]);
     } else {
         assert_eq!((&ledger, &result), (&call.ledger, &call.result));
@@ -126,7 +126,7 @@ fn features(call: &SettleCall, result: &[u8]) -> Vec<&'static str> {
     note(at(32) > 0 && at(36) < at(28), "points first");
     note(at(28) % 4 != 0, "unaligned rows");
     for row in 0..at(24) as usize {
-        let word = |index: usize| at(at(28) as usize + 56 * row + 4 * index);
+        let word = |index: usize| at(at(28) as usize + ROW_BYTES * row + 4 * index);
         let figure = |index: usize| long_at(result, 8 + 8 * row + index).unwrap();
         let (kind, count) = (word(1), word(13));
         let names = ["kind 0", "kind 1", "kind 2", "kind 3", "kind 4"];
@@ -142,13 +142,16 @@ fn features(call: &SettleCall, result: &[u8]) -> Vec<&'static str> {
         note(kind == 2 && figure(5) > 0, "bonus of kind 2");
         note(kind == 0 && figure(0) < u64::from(word(2)), "expected less");
         note(word(4) as i32 <= 0 && figure(1) == 0, "no actual");
-        note(count == 0 && word(12) > 2_048, "any first point");
+        note(
+            count == 0 && word(12) > POINTS_MOST as u32,
+            "any first point",
+        );
         note(word(10) == 0 && count > 0 && kind == 0, "offline");
         let full = figure(4) * net_cone * days / 360_000;
         note(figure(6) < full && figure(6) > 0, "charge cut");
         note(figure(6) == 0 && full > 0, "charge cut to nothing");
         for other in 0..row {
-            let theirs = |index: usize| at(at(28) as usize + 56 * other + 4 * index);
+            let theirs = |index: usize| at(at(28) as usize + ROW_BYTES * other + 4 * index);
             let same = count > 0 && theirs(13) > 0 && theirs(12) == word(12);
             note(same, "shared points");
         }

@@ -26,6 +26,7 @@ fn bytes_come_through_in_every_way() {
             assert!(written == Ok(bytes.clone()), "{input:?} {output:?}");
         }
     }
+    assert!(cat.short_writes() > 0);
 }
 
 #[test]

@@ -104,7 +104,7 @@ impl<const W: usize> Pair<W> {
 }
 
 /// A function with guarded buffers for its calls.
-pub struct Bench<const W: usize> {
+pub struct Comparison<const W: usize> {
     pair: Pair<W>,
     read: Guarded,
     written: [Guarded; W],
@@ -112,9 +112,9 @@ pub struct Bench<const W: usize> {
     met: BTreeMap<u32, u64>,
 }
 
-impl<const W: usize> Bench<W> {
+impl<const W: usize> Comparison<W> {
     pub fn new(pair: Pair<W>) -> Self {
-        Bench {
+        Comparison {
             pair,
             read: Guarded::map(),
             written: array::from_fn(|_| Guarded::map()),
@@ -224,7 +224,7 @@ mod tests {
             year: None,
             number: 4,
         };
-        Bench::new(pair(module)).compare(&call, place)
+        Comparison::new(pair(module)).compare(&call, place)
     }
 
     #[test]
@@ -267,12 +267,12 @@ mod tests {
                 written: [Vec::new()],
             },
         };
-        let mut bench = Bench::new(pair(fill));
-        assert_eq!(bench.compare_all(&calls, 3, 10), Ok(()));
-        let report = bench.counts(3).unwrap_err();
+        let mut comparison = Comparison::new(pair(fill));
+        assert_eq!(comparison.compare_all(&calls, 3, 10), Ok(()));
+        let report = comparison.counts(3).unwrap_err();
         assert_eq!(report, "filling: seed 3: no case is answered 1");
-        bench.pair.answers = &[0];
+        comparison.pair.answers = &[0];
         let counts = "10 cases, 10 accepted, seed 3; answers 0: 10";
-        assert_eq!(bench.counts(3).unwrap(), counts);
+        assert_eq!(comparison.counts(3).unwrap(), counts);
     }
 }

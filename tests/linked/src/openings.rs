@@ -2,7 +2,8 @@
 
 use crate::compare::{Call, Calls, Pair};
 use crate::npa;
-use npa_tests::layout::Opening;
+use npa_tests::layout::{ledger_bytes, Opening, BLOCK_MOST, IDS_MOST, OPENING_BYTES};
+use npa_tests::listing::{self, DAYS, IDS, NET_CONE};
 use npa_tests::random::{
     flip, long_open, open_call_for, rising, valid_open, OpenCall, OpenCase, Rng, FULL, MIDDLE,
     SMALL,
@@ -44,29 +45,27 @@ fn fixed(rng: &mut Rng) -> Vec<Call<1>> {
     calls
 }
 
-/// The ledger bytes of so many ids.
-fn needed(ids: usize) -> usize {
-    64 + 32 * ids
-}
-
 /// An opening to accept, if the ids are; all just long enough.
 fn opening_of(ids: &[u32]) -> OpenCase {
     OpenCase {
-        opening: Opening::new(30_000, 365, ids),
-        ledger_length: needed(ids.len()),
+        opening: Opening::new(NET_CONE, DAYS, ids),
+        ledger_length: ledger_bytes(ids.len()),
     }
 }
 
 /// The opening of document 01's listing.
 fn listing() -> OpenCase {
-    opening_of(&[11, 12, 13, 14])
+    OpenCase {
+        opening: listing::opening(),
+        ledger_length: ledger_bytes(IDS.len()),
+    }
 }
 
 /// Blocks of every length near both bounds, with one id or all that fit, up to the end or past it.
 fn lengths() -> Vec<OpenCase> {
     let mut cases = Vec::new();
     for length in (0..=64).chain(4093..=4097usize) {
-        let most = (length.saturating_sub(20) / 4).clamp(1, 512);
+        let most = (length.saturating_sub(OPENING_BYTES) / 4).clamp(1, IDS_MOST);
         for count in [1, most] {
             let last = length.saturating_sub(4 * count);
             for ids_at in [20, last, last + 1] {
@@ -173,7 +172,7 @@ fn ids() -> Vec<OpenCase> {
 fn rooms() -> Vec<OpenCase> {
     let mut cases = Vec::new();
     for count in [1, 2, 4, 511, 512] {
-        let needed = needed(count);
+        let needed = ledger_bytes(count);
         let lengths = (0..=65).chain(needed - 33..=needed + 33);
         for length in lengths.chain([needed + 4096]) {
             let mut case = opening_of(&rising(count));
@@ -190,7 +189,7 @@ type Fault = (u32, fn(&mut OpenCase));
 const FAULTS: [Fault; 20] = [
     (1, |case| case.opening.length = 0),
     (1, |case| case.opening.length = 19),
-    (1, |case| case.opening.length = 4097),
+    (1, |case| case.opening.length = BLOCK_MOST + 1),
     (1, |case| case.opening.words[0] = 0),
     (1, |case| case.opening.words[0] = 2),
     (2, |case| case.opening.words[1] = 0),
@@ -207,7 +206,7 @@ const FAULTS: [Fault; 20] = [
     (4, |case| case.opening.ids[2] = 12),
     (4, |case| case.opening.ids[3] = 12),
     (5, |case| case.ledger_length = 0),
-    (5, |case| case.ledger_length = needed(4) - 1),
+    (5, |case| case.ledger_length = ledger_bytes(4) - 1),
 ];
 
 /// Every two faults together, for the order of the grounds.
@@ -271,7 +270,7 @@ fn any_words(rng: &mut Rng) -> OpenCall {
     let count = rng.up_to(12);
     let mut case = opening_of(&rising(count));
     let (before, behind) = (rng.index(4), rng.index(4));
-    case.opening.place(20 + before, behind);
+    case.opening.place(OPENING_BYTES + before, behind);
     let (end, bytes) = (case.opening.length as u32, 4 * count as u32);
     let bounds: [&[u32]; 5] = [
         &[1],
@@ -289,7 +288,7 @@ fn any_words(rng: &mut Rng) -> OpenCall {
     if rng.one_in(4) {
         case.opening.ids[index] = rng.near(&[0, 7 * index as u32, 7 * count as u32]);
     }
-    case.ledger_length = needed(count) - 2 + rng.pick(&[0, 1, 2, 2, 2, 3, 40]);
+    case.ledger_length = ledger_bytes(count) - 2 + rng.pick(&[0, 1, 2, 2, 2, 3, 40]);
     case.call(rng)
 }
 

@@ -9,7 +9,9 @@ pub mod row_bounds;
 
 use crate::compare::{Call, Calls, Pair};
 use crate::npa;
-use npa_tests::layout::{put_words, IntervalFile, Ledger, Row};
+use npa_tests::layout::{
+    put_words, result_bytes, IntervalFile, Ledger, Row, IMPORTS_MOST, KW_MOST,
+};
 use npa_tests::listing::{self, DAYS, IDS, NET_CONE};
 use npa_tests::random::{
     cut, flip, long_settle, rising, scramble, settle_call_for, valid_settle, Rng, SettleCall,
@@ -51,16 +53,11 @@ fn fixed(rng: &mut Rng) -> Vec<Call<2>> {
     calls
 }
 
-/// The result bytes of so many rows.
-fn needed(rows: usize) -> usize {
-    64 + 64 * rows
-}
-
 /// A settling of this file by ids; all just long enough.
 fn settling_of(ids: &[u32], file: IntervalFile) -> SettleCase {
     SettleCase {
         ledger: Ledger::new(file.head[2], file.head[3], ids),
-        result_length: needed(file.rows.len()),
+        result_length: result_bytes(file.rows.len()),
         file,
     }
 }
@@ -180,7 +177,7 @@ fn any_words(rng: &mut Rng) -> SettleCall {
     for (word, bounds) in [
         (1, &[0, 1_000, 105_119][..]),
         (4, &[0, 1]),
-        (5, &[0, 40_000_000, 0u32.wrapping_sub(40_000_000)]),
+        (5, &[0, IMPORTS_MOST as u32, -IMPORTS_MOST as u32]),
         (6, &[1, 4, 512]),
         (7, &[40, end]),
         (8, &[0, 6, 2_048]),
@@ -191,10 +188,10 @@ fn any_words(rng: &mut Rng) -> SettleCall {
         }
     }
     case.ledger.words[3] = rng.pick(&[0, 999, 1_000, 1_000, 1_001]);
-    case.result_length = needed(4) - 2 + rng.pick(&[0, 1, 2, 2, 2, 3, 40]);
+    case.result_length = result_bytes(4) - 2 + rng.pick(&[0, 1, 2, 2, 2, 3, 40]);
     let mut call = case.call(rng);
-    let kw: u32 = 4_000_000;
-    let bounds = [0, 1, 2, 4, 10, kw, 0u32.wrapping_sub(kw), 1_000_000, 3_000];
+    let least_kw = 0u32.wrapping_sub(KW_MOST);
+    let bounds = [0, 1, 2, 4, 10, KW_MOST, least_kw, 1_000_000, 3_000];
     for _ in 0..rng.below(4) {
         let at = 40 + 4 * rng.index((call.file.len() - 40) / 4);
         let word = rng.near(&bounds);

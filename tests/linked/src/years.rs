@@ -1,7 +1,7 @@
 //! Years of calls: opened and settled by the module, each call held to the
 //! reference, and the sums of the year to the results that the module leaves.
 
-use crate::compare::{Bench, Call, Place};
+use crate::compare::{Call, Comparison, Place};
 use crate::openings;
 use npa_tests::random::{Rng, RunningYear, Size, FULL, MIDDLE, SMALL};
 use npa_tests::sums::{Accepted, Sums};
@@ -16,8 +16,8 @@ pub struct Years {
 }
 
 /// Compares years of `count` calls in all.
-pub fn compare(settling: &mut Bench<2>, seed: u64, count: u64) -> Result<Years, String> {
-    let mut opening = Bench::new(openings::PAIR);
+pub fn compare(settling: &mut Comparison<2>, seed: u64, count: u64) -> Result<Years, String> {
+    let mut opening = Comparison::new(openings::PAIR);
     let mut seen = Years::default();
     let mut left = count;
     while left > 0 {
@@ -56,7 +56,7 @@ fn some_length(rng: &mut Rng) -> (Size, u64) {
 }
 
 /// Opens a year by the module; its sums so far.
-fn open(opening: &mut Bench<1>, year: &RunningYear, place: Place) -> Result<Sums, String> {
+fn open(opening: &mut Comparison<1>, year: &RunningYear, place: Place) -> Result<Sums, String> {
     let call = Call {
         read: year.block.clone(),
         written: [year.unopened.clone()],
@@ -70,7 +70,7 @@ fn open(opening: &mut Bench<1>, year: &RunningYear, place: Place) -> Result<Sums
 
 /// Settles a file by the module and adds what it gives; whether it is accepted.
 fn settle(
-    settling: &mut Bench<2>,
+    settling: &mut Comparison<2>,
     call: &Call<2>,
     place: Place,
     sums: &mut Sums,
@@ -107,7 +107,7 @@ mod tests {
             reference: settle,
             answers: &[],
         };
-        compare(&mut Bench::new(pair), 1, 3_000)
+        compare(&mut Comparison::new(pair), 1, 3_000)
     }
 
     #[test]

@@ -7,7 +7,7 @@ use npa_tests::program::{Closed, Input, Output, Program, Unread};
 use npa_tests::random::Rng;
 use npa_tests::reference::{npalist, HEADING};
 use npa_tests::streams::{self, Case};
-use std::collections::BTreeMap;
+use std::collections::{BTreeMap, HashSet};
 use std::path::Path;
 use std::process::ExitCode;
 use std::{env, fs};
@@ -18,6 +18,7 @@ const SAMPLES: &str = concat!(env!("CARGO_MANIFEST_DIR"), "/../samples");
 struct Held {
     program: Program,
     runs: u64,
+    streams: HashSet<Vec<u8>>,
     /// How many lines of each sort the listings had.
     met: BTreeMap<String, u64>,
 }
@@ -72,11 +73,19 @@ impl Held {
         if let Some(what) = difference(&written, &must_be) {
             return Err(report(case, &how, &what));
         }
-        self.runs += 1;
+        self.count(case);
         for sort in String::from_utf8_lossy(&must_be).lines().filter_map(sort) {
             *self.met.entry(sort).or_default() += 1;
         }
         Ok(())
+    }
+
+    /// Counts a run, and its stream if it is another than before.
+    fn count(&mut self, case: &Case) {
+        self.runs += 1;
+        if !self.streams.contains(&case.stream) {
+            self.streams.insert(case.stream.clone());
+        }
     }
 
     /// Holds a run for each case.
@@ -111,13 +120,7 @@ impl Held {
 
     /// A stream that stops the listing, with an input that does not end: the program ends all the same.
     fn stopped(&mut self, rng: &mut Rng) -> Result<(), String> {
-        let too_long = |case: &&Case| {
-            let of = ["opening of 4097 ", "file of 49153 "];
-            of.iter().any(|of| case.name.starts_with(of))
-        };
-        for case in streams::lengths().iter().filter(too_long) {
-            self.hold(case, Input::Open, Output::Pipe)?;
-        }
+        self.hold_all(&streams::too_long(), Input::Open)?;
         self.hold_all(&streams::refused_openings(rng, 2), Input::Open)
     }
 
@@ -132,7 +135,10 @@ impl Held {
             self.hold(case, Input::File, Output::Interrupted)?;
             self.hold(case, Input::Pieces(200_000), Output::Interrupted)?;
         }
-        Ok(())
+        match self.program.short_writes() {
+            0 => Err("no write was seen to move less than it was given".to_string()),
+            _ => Ok(()),
+        }
     }
 
     /// Outputs that take no more: the program ends, and what it wrote begins the listing.
@@ -156,7 +162,7 @@ impl Held {
                 if let Some(what) = difference(&written, &must_be[..wanted]) {
                     return Err(report(case, &how, &what));
                 }
-                self.runs += 1;
+                self.count(case);
             }
         }
         Ok(())
@@ -176,20 +182,15 @@ impl Held {
         Ok(())
     }
 
-    /// The samples, against their own listings too.
+    /// The samples.
     fn samples(&mut self) -> Result<(), String> {
         let mut count = 0;
         for entry in fs::read_dir(SAMPLES).map_err(|error| format!("{SAMPLES}: {error}"))? {
             let path = entry.map_err(|error| error.to_string())?.path();
             if path.extension().is_some_and(|kind| kind == "stream") {
                 let name = path.display().to_string();
-                let read = |path: &Path| fs::read(path).map_err(|error| format!("{name}: {error}"));
-                let stream = read(&path)?;
-                let listing = read(&path.with_extension("csv"))?;
+                let stream = fs::read(&path).map_err(|error| format!("{name}: {error}"))?;
                 let case = Case { name, stream };
-                if let Some(what) = difference(&listing, &npalist(&case.stream)) {
-                    return Err(report(&case, "its csv", &what));
-                }
                 self.hold(&case, Input::File, Output::Pipe)?;
                 self.hold(&case, Input::Pieces(700), Output::Slow(3_000))?;
                 count += 1;
@@ -233,7 +234,10 @@ impl Held {
             .iter()
             .map(|(sort, count)| format!("{sort}: {count}"));
         let counts = counts.collect::<Vec<_>>().join("; ");
-        Ok(format!("{} runs, seed {seed}; lines {counts}", self.runs))
+        let (runs, streams, short) = (self.runs, self.streams.len(), self.program.short_writes());
+        Ok(format!(
+            "{runs} runs of {streams} streams, {short} writes cut short, seed {seed}; lines {counts}"
+        ))
     }
 }
 
@@ -242,6 +246,7 @@ fn run(binary: &str, seed: u64, count: u64) -> Result<String, String> {
     let mut held = Held {
         program,
         runs: 0,
+        streams: HashSet::new(),
         met: BTreeMap::new(),
     };
     let mut rng = Rng::new(seed);

@@ -1,8 +1,8 @@
 //! `npalist_bench BINARY` times the program npalist and the reference's listing on the same stream.
 
+use npa_tests::layout::ROWS_MOST;
 use npa_tests::outcome::shown;
 use npa_tests::program::Program;
-use npa_tests::random::FULL;
 use npa_tests::reference::npalist;
 use npa_tests::streams::full_intervals;
 use std::env;
@@ -11,7 +11,7 @@ use std::process::ExitCode;
 use std::time::{Duration, Instant};
 
 const FILES: u32 = 1_000;
-const ROWS: usize = FULL.ids;
+const ROWS: usize = ROWS_MOST;
 const ROUNDS: usize = 3;
 
 /// One of the two lines.

@@ -34,42 +34,68 @@ const ROW: [&str; 8] = [
     "credit",
 ];
 
-/// The text of a ledger.
-pub fn show_ledger(bytes: &[u8]) -> String {
-    let accounts = long_at(bytes, 5).unwrap_or(0);
-    show_words(bytes, ("ledger", &LEDGER), ("account", &ACCOUNT), accounts)
+/// The word at which a ledger's accounts begin.
+const ACCOUNTS_AT: u64 = 8;
+
+/// The text of a buffer as far as it reaches, and what is wrong with it.
+#[derive(Debug, PartialEq)]
+pub struct Shown {
+    pub text: String,
+    pub fault: Option<String>,
 }
 
-/// The text of a result.
-pub fn show_result(bytes: &[u8]) -> String {
-    let rows = long_at(bytes, 7).unwrap_or(0);
-    show_words(bytes, ("result", &INTERVAL), ("row", &ROW), rows)
+/// A ledger shown.
+pub fn show_ledger(bytes: &[u8]) -> Shown {
+    let mut shown = show_words(bytes, ("ledger", &LEDGER), 5, ("account", &ACCOUNT));
+    let begin = long_at(bytes, 6).filter(|at| *at != ACCOUNTS_AT);
+    if let Some(at) = begin {
+        let what = format!("accounts_at is {at}, but accounts begin at word {ACCOUNTS_AT}");
+        shown.fault = shown.fault.or(Some(what));
+    }
+    shown
 }
 
-/// A line for the first eight words and one for each entry behind them, as far as the bytes reach.
+/// A result shown.
+pub fn show_result(bytes: &[u8]) -> Shown {
+    show_words(bytes, ("result", &INTERVAL), 7, ("row", &ROW))
+}
+
+/// A line for the first eight words, of which one counts the entries, and a line for each entry behind them.
 fn show_words(
     bytes: &[u8],
     first: (&str, &[&str]),
+    counting: usize,
     entry: (&str, &[&str]),
-    entries: u64,
-) -> String {
-    let Some(mut text) = show_line(bytes, 0, first.0, first.1) else {
-        return format!("# {} bytes are too few for a {}\n", bytes.len(), first.0);
+) -> Shown {
+    let (name, fields) = first;
+    let length = bytes.len();
+    let Some(mut text) = show_line(bytes, 0, name, fields) else {
+        return Shown {
+            text: String::new(),
+            fault: Some(format!("{length} bytes are too few for a {name}")),
+        };
     };
-    let mut word = first.1.len();
-    for number in 0..entries {
-        let name = format!("{} {}", entry.0, number + 1);
-        let Some(line) = show_line(bytes, word, &name, entry.1) else {
-            text += &format!("# cut: {number} of {entries} entries\n");
+    let mut fault = None;
+    let mut word = fields.len();
+    let entries = long_at(bytes, counting).expect("it is one of the words shown");
+    for number in 1..=entries {
+        let line = show_line(bytes, word, &format!("{} {number}", entry.0), entry.1);
+        let Some(line) = line else {
+            let what = format!(
+                "{length} bytes are too few for a {name} of {entries} {}s",
+                entry.0
+            );
+            fault = Some(what);
             break;
         };
         text += &line;
         word += entry.1.len();
     }
-    match bytes.len().saturating_sub(8 * word) {
-        0 => text,
-        rest => text + &format!("# {rest} bytes behind them\n"),
+    let rest = length - 8 * word;
+    if rest > 0 {
+        text += &format!("# {rest} bytes behind them\n");
     }
+    Shown { text, fault }
 }
 
 /// A line of named words, if all are there.

@@ -8,7 +8,7 @@ mod make;
 mod names;
 mod show;
 
-pub use buffers::{show_ledger, show_result};
-pub use line::Fault;
+pub use buffers::{show_ledger, show_result, Shown};
+pub use line::{text_of, Fault};
 pub use make::make;
 pub use show::show;

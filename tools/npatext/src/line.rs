@@ -1,6 +1,6 @@
 //! One line of text: a keyword, words, named fields; and what is wrong with it.
 
-use std::fmt;
+use std::{fmt, str};
 
 /// What is wrong with a text, and where.
 #[derive(Debug, PartialEq)]
@@ -18,6 +18,19 @@ impl fmt::Display for Fault {
         }
         write!(to, ": {}", self.what)
     }
+}
+
+/// The text that bytes are; a fault names the line of the first that is not UTF-8.
+pub fn text_of(bytes: &[u8]) -> Result<&str, Fault> {
+    str::from_utf8(bytes).map_err(|error| {
+        let at = error.valid_up_to();
+        let above = bytes[..at].iter().filter(|byte| **byte == b'\n').count();
+        Fault {
+            line: above + 1,
+            field: None,
+            what: format!("byte {:02x} is not UTF-8", bytes[at]),
+        }
+    })
 }
 
 /// A line without its comment; fields leave it as they are read.
@@ -47,6 +60,10 @@ impl<'a> Line<'a> {
                 line.words.push(part);
                 continue;
             };
+            if name.is_empty() {
+                let what = format!("`{part}` has no name; a field is name=value, without blanks");
+                return Err(line.wrong(what));
+            }
             if line.fields.iter().any(|(other, _)| *other == name) {
                 return Err(line.fault(name, "is given twice"));
             }
@@ -126,8 +143,11 @@ impl<'a> Line<'a> {
         text.map(|text| self.signed(field, text)).transpose()
     }
 
-    /// Bytes in two hexadecimal digits each: all words that are left.
+    /// Bytes in two hexadecimal digits each: all words that are left, at least one.
     pub fn hex(&mut self, field: &str) -> Result<Vec<u8>, Fault> {
+        if self.words.is_empty() {
+            return Err(self.fault(field, "is missing"));
+        }
         let digits = self.words.concat();
         self.words.clear();
         let pairs = digits.as_bytes().chunks(2);

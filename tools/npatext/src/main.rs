@@ -1,7 +1,7 @@
 //! OUTSIDE THE PROOFS: a plain Rust tool. It makes streams for npalist from
 //! readable text and shows streams, ledgers and results as text; it settles nothing.
 
-use npatext::{make, show, show_ledger, show_result};
+use npatext::{make, show, show_ledger, show_result, text_of, Shown};
 use std::io::{self, Read, Write};
 use std::process::ExitCode;
 use std::{env, fs};
@@ -23,34 +23,42 @@ fn input(path: Option<&String>) -> Result<Vec<u8>, String> {
 }
 
 /// The stream that a text describes.
-fn made(text: Vec<u8>) -> Result<Vec<u8>, String> {
-    let text = String::from_utf8(text).map_err(|error| error.to_string())?;
-    make(&text).map_err(|fault| fault.to_string())
+fn made(text: &[u8]) -> Result<Vec<u8>, String> {
+    let stream = text_of(text).and_then(make);
+    stream.map_err(|fault| fault.to_string())
 }
 
-fn run(arguments: &[String]) -> Result<Vec<u8>, String> {
+/// Writes to standard output.
+fn write(bytes: &[u8]) -> Result<(), String> {
+    let mut out = io::stdout().lock();
+    let written = out.write_all(bytes).and_then(|()| out.flush());
+    written.map_err(|error| error.to_string())
+}
+
+/// Writes what is shown of a buffer, and fails if something is wrong with it.
+fn tell(Shown { text, fault }: Shown) -> Result<(), String> {
+    write(text.as_bytes())?;
+    fault.map_or(Ok(()), Err)
+}
+
+fn run(arguments: &[String]) -> Result<(), String> {
     let (command, path) = match arguments {
         [command] => (command, None),
         [command, path] => (command, Some(path)),
         _ => return Err(USAGE.to_string()),
     };
     match command.as_str() {
-        "make" => made(input(path)?),
-        "show" => Ok(show(&input(path)?).into_bytes()),
-        "ledger" => Ok(show_ledger(&input(path)?).into_bytes()),
-        "result" => Ok(show_result(&input(path)?).into_bytes()),
+        "make" => write(&made(&input(path)?)?),
+        "show" => write(show(&input(path)?).as_bytes()),
+        "ledger" => tell(show_ledger(&input(path)?)),
+        "result" => tell(show_result(&input(path)?)),
         _ => Err(USAGE.to_string()),
     }
 }
 
 fn main() -> ExitCode {
     let arguments: Vec<String> = env::args().skip(1).collect();
-    let written = run(&arguments).and_then(|bytes| {
-        let mut out = io::stdout().lock();
-        let written = out.write_all(&bytes).and_then(|()| out.flush());
-        written.map_err(|error| error.to_string())
-    });
-    match written {
+    match run(&arguments) {
         Ok(()) => ExitCode::SUCCESS,
         Err(what) => {
             eprintln!("{what}");

@@ -1,9 +1,10 @@
 //! From text to a stream.
 
 use crate::line::{Fault, Line};
-use crate::names::{Sign, HEADER_BYTES, KINDS, OPENING_BYTES, POINT_BYTES, ROW_BYTES, ROW_WORDS};
-use npa_tests::layout::{IntervalFile, Opening};
-use npa_tests::random::push_block;
+use crate::names::{Sign, KINDS, ROW_WORDS};
+use npa_tests::layout::{
+    push_block, IntervalFile, Opening, HEADER_BYTES, OPENING_BYTES, POINT_BYTES, ROW_BYTES,
+};
 
 /// The longest block that a text may describe.
 const LENGTH_MOST: usize = 1 << 20;
@@ -301,8 +302,7 @@ fn row(line: &mut Line, block: Option<&mut Block>) -> Result<(), Fault> {
     let ids = line.word("id")?;
     let ids = id_list(line, "id", ids)?;
     if let Some(kind) = line.take("kind") {
-        let named = KINDS.iter().position(|name| *name == kind);
-        words[1] = named.map_or_else(|| line.unsigned("kind", kind), |kind| Ok(kind as u32))?;
+        words[1] = kind_of(line, kind)?;
     }
     for (index, name, sign) in ROW_WORDS {
         let word = match sign {
@@ -313,6 +313,12 @@ fn row(line: &mut Line, block: Option<&mut Block>) -> Result<(), Fault> {
     }
     if let Some(curve) = line.take("curve") {
         let curve = point_list(line, "curve", curve)?;
+        if let Some(field) = ["first", "points"]
+            .into_iter()
+            .find(|field| line.take(field).is_some())
+        {
+            return Err(line.fault(field, "is given beside `curve`, which says it"));
+        }
         words[12] = interval.points.len() as u32;
         words[13] = curve.len() as u32;
         interval.points.extend(curve);
@@ -325,6 +331,19 @@ fn row(line: &mut Line, block: Option<&mut Block>) -> Result<(), Fault> {
         interval.rows.push(words);
     }
     Ok(())
+}
+
+/// A kind by its name or number.
+fn kind_of(line: &Line, text: &str) -> Result<u32, Fault> {
+    let named = KINDS.iter().position(|name| *name == text);
+    let kind = named.map(|kind| kind as u32).or_else(|| text.parse().ok());
+    kind.ok_or_else(|| {
+        let names = KINDS.join(", ");
+        line.fault(
+            "kind",
+            format!("`{text}` is none of {names}, and no number of 32 bits"),
+        )
+    })
 }
 
 /// `points LIST`: points that no row has as its curve.

@@ -25,9 +25,3 @@ pub const ROW_WORDS: [(usize, &str, Sign); 10] = [
 
 /// Kinds 0 to 4.
 pub const KINDS: [&str; 5] = ["generation", "demand", "efficiency", "prd", "energy_only"];
-
-/// The bytes of an opening block before any ids, and of a header.
-pub const OPENING_BYTES: usize = 20;
-pub const HEADER_BYTES: usize = 40;
-pub const ROW_BYTES: usize = 56;
-pub const POINT_BYTES: usize = 8;

@@ -1,12 +1,10 @@
 //! From a stream to text from which the same bytes are made.
 
 use crate::make::{end_of, make_under, Terms};
-use crate::names::{Sign, HEADER_BYTES, KINDS, OPENING_BYTES, POINT_BYTES, ROW_BYTES, ROW_WORDS};
-use npa_tests::layout::{hex, word_at};
-
-/// The longest blocks that npalist reads.
-const OPENING_MOST: usize = 4096;
-const INTERVAL_MOST: usize = 49_152;
+use crate::names::{Sign, KINDS, ROW_WORDS};
+use npa_tests::layout::{
+    hex, word_at, BLOCK_MOST, FILE_MOST, HEADER_BYTES, OPENING_BYTES, POINT_BYTES, ROW_BYTES,
+};
 
 /// Bytes that one line shows.
 const LINE_BYTES: usize = 32;
@@ -17,11 +15,7 @@ pub fn show(stream: &[u8]) -> String {
     let mut terms = None;
     let mut rest = stream;
     for number in 0.. {
-        let most = if number == 0 {
-            OPENING_MOST
-        } else {
-            INTERVAL_MOST
-        };
+        let most = if number == 0 { BLOCK_MOST } else { FILE_MOST };
         let Some(length) = word_at(rest, 0).map(|length| length as usize) else {
             break;
         };
@@ -102,7 +96,7 @@ fn show_opening(block: &[u8]) -> String {
     let mut text = format!("opening net_cone={net_cone} days={days} ids={list}");
     say(&mut text, "format", format, 1);
     say(&mut text, "count", count as usize, ids.len());
-    say(&mut text, "ids_at", at, 20);
+    say(&mut text, "ids_at", at as usize, OPENING_BYTES);
     let end = end_of(OPENING_BYTES, &[(at as usize, 4 * ids.len())]);
     say(&mut text, "length", block.len(), end);
     text + "\n"

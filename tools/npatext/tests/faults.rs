@@ -1,7 +1,9 @@
 //! A fault of a text names its line and field.
 
 use npa_tests::random::{self, Rng, SMALL};
-use npatext::{make, show, show_ledger, show_result};
+use npatext::{make, show, show_ledger, show_result, text_of, Shown};
+use std::io::Write;
+use std::process::{Command, Stdio};
 
 const OPENING: &str = "opening net_cone=1 days=365 ids=1";
 
@@ -39,7 +41,17 @@ fn faults_name_line_and_field() {
         ("row 1 2", "line 4: `2` is too much for `row`".to_string()),
         (
             "row 1 kind=wind",
-            "line 4, field kind: `wind` is not a number from 0 to 4294967295".to_string(),
+            "line 4, field kind: `wind` is none of generation, demand, efficiency, prd, energy_only, \
+             and no number of 32 bits"
+                .to_string(),
+        ),
+        (
+            "row 1 committed = 5",
+            "line 4: `=` has no name; a field is name=value, without blanks".to_string(),
+        ),
+        (
+            "row 1 =5",
+            "line 4: `=5` has no name; a field is name=value, without blanks".to_string(),
         ),
         (
             "row 1 curve=10",
@@ -47,13 +59,22 @@ fn faults_name_line_and_field() {
         ),
         (
             "row 1 curve=1:2 first=3",
-            "line 4, field first: is no field of `row`".to_string(),
+            "line 4, field first: is given beside `curve`, which says it".to_string(),
+        ),
+        (
+            "row 1 curve=1:2 points=3",
+            "line 4, field points: is given beside `curve`, which says it".to_string(),
         ),
         ("points", "line 4, field points: is missing".to_string()),
         (
             "bytes 39 0102",
             "line 4, field bytes: lie beyond the block's end".to_string(),
         ),
+        (
+            "bytes 0",
+            "line 4, field bytes: is missing".to_string(),
+        ),
+        ("raw", "line 4, field raw: is missing".to_string()),
         (
             "bytes 0 012",
             "line 4, field bytes: is not pairs of hexadecimal digits".to_string(),
@@ -91,6 +112,17 @@ fn faults_name_line_and_field() {
     );
 }
 
+#[test]
+fn a_byte_that_is_no_text_has_its_line() {
+    assert_eq!(text_of(b"block\n# \xc3\xa9\n"), Ok("block\n# é\n"));
+    for (bytes, fault) in [
+        (&b"block\nraw \xff0\n"[..], "line 2: byte ff is not UTF-8"),
+        (b"\xc3", "line 1: byte c3 is not UTF-8"),
+    ] {
+        assert_eq!(text_of(bytes).unwrap_err().to_string(), fault);
+    }
+}
+
 /// A damaged text is made or refused; it does not end the tool.
 #[test]
 fn damaged_texts_end_well() {
@@ -112,21 +144,94 @@ fn damaged_texts_end_well() {
     assert!((100..2_900).contains(&refused), "{refused}");
 }
 
+/// The bytes of 64-bit words.
+fn bytes_of(words: &[u64]) -> Vec<u8> {
+    words.iter().flat_map(|word| word.to_le_bytes()).collect()
+}
+
+const LEDGER: &str = "ledger format=1 net_cone=30000 days=365 earliest=1001 carried=1 accounts=1";
+const ACCOUNT: &str = "account 1 id=11 commitment=12 charged=13 credited=14";
+
 #[test]
 fn ledgers_and_results_are_shown() {
-    let words =
-        |words: &[u64]| -> Vec<u8> { words.iter().flat_map(|word| word.to_le_bytes()).collect() };
-    let ledger = words(&[1, 30000, 365, 1001, 1, 1, 8, 0, 11, 12, 13, 14, 15]);
-    let text = "ledger format=1 net_cone=30000 days=365 earliest=1001 carried=1 accounts=1 accounts_at=8 zero=0
-account 1 id=11 commitment=12 charged=13 credited=14
-# 8 bytes behind them
-";
-    assert_eq!(show_ledger(&ledger), text);
-    let result = words(&[1, 2, 3, 4, 5, 6, 7, 2, 8, 9, 10, 11, 12, 13, 14, 15]);
-    let text = "result ratio=1 charges=2 credits=3 carried=4 total_bonus=5 numerator=6 denominator=7 rows=2
+    let ledger = bytes_of(&[1, 30000, 365, 1001, 1, 1, 8, 0, 11, 12, 13, 14, 15]);
+    let text = format!("{LEDGER} accounts_at=8 zero=0\n{ACCOUNT}\n# 8 bytes behind them\n");
+    let fault = None;
+    assert_eq!(show_ledger(&ledger), Shown { text, fault });
+    let result = bytes_of(&[1, 2, 3, 4, 5, 6, 7, 1, 8, 9, 10, 11, 12, 13, 14, 15]);
+    let text = "\
+result ratio=1 charges=2 credits=3 carried=4 total_bonus=5 numerator=6 denominator=7 rows=1
 row 1 expected=8 actual=9 outage=10 economic=11 shortfall=12 bonus=13 charge=14 credit=15
-# cut: 1 of 2 entries
 ";
-    assert_eq!(show_result(&result), text);
-    assert_eq!(show_result(&[]), "# 0 bytes are too few for a result\n");
+    let (text, fault) = (text.to_string(), None);
+    assert_eq!(show_result(&result), Shown { text, fault });
+}
+
+/// What `npatext COMMAND` writes for an input, the error, and its status.
+fn run(command: &str, input: &[u8]) -> (String, String, Option<i32>) {
+    let mut child = Command::new(env!("CARGO_BIN_EXE_npatext"))
+        .arg(command)
+        .stdin(Stdio::piped())
+        .stdout(Stdio::piped())
+        .stderr(Stdio::piped())
+        .spawn()
+        .expect("npatext runs");
+    let mut stdin = child.stdin.take().expect("its input is a pipe");
+    stdin.write_all(input).expect("npatext reads its input");
+    drop(stdin);
+    let output = child.wait_with_output().expect("npatext ends");
+    let text = |bytes| String::from_utf8(bytes).expect("npatext writes text");
+    let status = output.status.code();
+    (text(output.stdout), text(output.stderr), status)
+}
+
+/// What is wrong with a buffer or text is said, and the status is 1; the words that are there are shown.
+#[test]
+fn what_is_wrong_is_said() {
+    let short = bytes_of(&[1, 30000, 365, 1001, 1, 2, 8, 0, 11, 12, 13, 14, 15]);
+    let elsewhere = bytes_of(&[1, 30000, 365, 1001, 1, 1, 9, 0, 11, 12, 13, 14]);
+    let cases = [
+        (
+            "ledger",
+            &short[..63],
+            String::new(),
+            "63 bytes are too few for a ledger",
+        ),
+        (
+            "ledger",
+            &short,
+            format!(
+                "{} accounts_at=8 zero=0\n{ACCOUNT}\n# 8 bytes behind them\n",
+                LEDGER.replace("accounts=1", "accounts=2")
+            ),
+            "104 bytes are too few for a ledger of 2 accounts",
+        ),
+        (
+            "ledger",
+            &elsewhere,
+            format!("{LEDGER} accounts_at=9 zero=0\n{ACCOUNT}\n"),
+            "accounts_at is 9, but accounts begin at word 8",
+        ),
+        (
+            "result",
+            b"",
+            String::new(),
+            "0 bytes are too few for a result",
+        ),
+        (
+            "make",
+            b"block\nraw \xff\n",
+            String::new(),
+            "line 2: byte ff is not UTF-8",
+        ),
+    ];
+    for (command, input, shown, fault) in cases {
+        let wanted = (shown, format!("{fault}\n"), Some(1));
+        assert_eq!(run(command, input), wanted, "{fault}");
+    }
+    let (text, error, status) = run("make", b"length 258\n");
+    assert_eq!(
+        (&text[..], &error[..], status),
+        ("\u{2}\u{1}\0\0", "", Some(0))
+    );
 }

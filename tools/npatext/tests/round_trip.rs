@@ -1,8 +1,8 @@
 //! Text to stream to text to stream gives the same bytes and the same text.
 
-use npa_tests::layout::{IntervalFile, Opening, Row};
-use npa_tests::random::{self, push_block, Rng, Size, FULL, MIDDLE, SMALL};
-use npa_tests::streams::{document, stream_of};
+use npa_tests::layout::{push_block, stream_of, IntervalFile, Opening, Row};
+use npa_tests::random::{self, Rng, Size, FULL, MIDDLE, SMALL};
+use npa_tests::streams::document;
 use npatext::{make, show};
 
 /// Shows a stream and makes it again.

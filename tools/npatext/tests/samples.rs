@@ -1,6 +1,6 @@
 //! The samples: every stream is made of its text, and every listing is the reference's.
 
-use npa_tests::reference::npalist;
+use npa_tests::reference::{npalist, HEADING};
 use npa_tests::streams::document;
 use npatext::{make, show};
 use std::collections::{BTreeMap, BTreeSet};
@@ -41,7 +41,17 @@ fn samples() -> BTreeMap<String, BTreeSet<String>> {
 fn samples_are_complete() {
     let samples = samples();
     let names: Vec<&str> = samples.keys().map(String::as_str).collect();
-    let wanted = ["afternoon", "cut", "document", "opening", "refusals"];
+    let wanted = [
+        "afternoon",
+        "cut",
+        "document",
+        "opening",
+        "opening_1",
+        "opening_2",
+        "opening_3",
+        "opening_length",
+        "refusals",
+    ];
     assert_eq!(names, wanted);
     for (name, kinds) in &samples {
         let kinds: Vec<&str> = kinds.iter().map(String::as_str).collect();
@@ -103,7 +113,16 @@ fn refusals_show_every_ground() {
     assert_eq!(grounds, wanted);
     assert_eq!(lines(&csv, Some("pool,")).len(), 5);
     assert!(csv.ends_with(",7\n"));
-    assert!(text("opening", "csv").ends_with("\nrefused,0,4\n"));
+    for (name, ground) in [
+        ("opening_1", 1),
+        ("opening_length", 1),
+        ("opening_2", 2),
+        ("opening_3", 3),
+        ("opening", 4),
+    ] {
+        let listing = format!("{HEADING}refused,0,{ground}\n");
+        assert_eq!(text(name, "csv"), listing, "{name}");
+    }
     assert!(text("cut", "csv").ends_with("\ncut,2\n"));
 }
 

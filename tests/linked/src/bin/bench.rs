@@ -1,21 +1,21 @@
 //! `bench` times the module and the reference on the same files, one after the other.
 
 use npa_linked::npa;
-use npa_tests::layout::Ledger;
-use npa_tests::random::{World, FULL};
+use npa_tests::layout::{result_bytes, Ledger, ROWS_MOST};
+use npa_tests::random::World;
 use npa_tests::reference;
 use npa_tests::streams::{full_files, ROW_POINTS};
 use std::time::{Duration, Instant};
 
 const FILES: u32 = 1_000;
-const ROWS: usize = FULL.ids;
+const ROWS: usize = ROWS_MOST;
 const ROUNDS: usize = 3;
 
 type Settle = fn(&mut [u8], &[u8], &mut [u8]) -> u32;
 
 /// The time for settling all files into a ledger, which stays as they leave it, and the last result.
 fn timed(settle: Settle, files: &[Vec<u8>], ledger: &mut [u8]) -> (Duration, Vec<u8>) {
-    let mut result = vec![0; 64 + 64 * ROWS];
+    let mut result = vec![0; result_bytes(ROWS)];
     let start = Instant::now();
     for file in files {
         let answer = settle(ledger, file, &mut result);

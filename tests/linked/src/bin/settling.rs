@@ -1,21 +1,21 @@
 //! `settling [SEED [N]]` holds the module's settling to the reference's: fixed calls
 //! at every boundary, then N random ones, a quarter of them in years whose sums are checked.
 
-use npa_linked::compare::{program, Bench};
+use npa_linked::compare::{program, Comparison};
 use npa_linked::settlings::{CALLS, PAIR};
 use npa_linked::years;
 use std::process::ExitCode;
 
 fn run(seed: u64, count: u64) -> Result<String, String> {
-    let mut bench = Bench::new(PAIR);
+    let mut comparison = Comparison::new(PAIR);
     let in_years = count / 4;
-    bench.compare_all(&CALLS, seed, count - in_years)?;
+    comparison.compare_all(&CALLS, seed, count - in_years)?;
     let years::Years {
         years,
         accepted,
         cut_charges,
-    } = years::compare(&mut bench, seed, in_years)?;
-    let counts = bench.counts(seed)?;
+    } = years::compare(&mut comparison, seed, in_years)?;
+    let counts = comparison.counts(seed)?;
     Ok(format!(
         "{counts}; {years} years, {accepted} accepted, {cut_charges} charges cut"
     ))

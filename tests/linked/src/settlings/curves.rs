@@ -1,13 +1,9 @@
 //! Schedules: curves of 0 to 10 points, and for each an LMP at, before and behind every point.
 
 use super::settling_of;
-use npa_tests::layout::{point, IntervalFile, Row};
+use npa_tests::layout::{point, IntervalFile, Row, KW_MOST, PRICE_MOST, ROW_POINTS_MOST};
+use npa_tests::listing::{DAYS, NET_CONE};
 use npa_tests::random::SettleCase;
-
-const KW_MOST: u32 = 4_000_000;
-const PRICE_MOST: i32 = 1_000_000;
-/// The most points of a row.
-const MOST: usize = 10;
 
 /// Price and kW of the point with this number.
 type Shape = fn(usize) -> (i32, u32);
@@ -42,7 +38,7 @@ const SHAPES: [Shape; 13] = [
 pub fn cases() -> Vec<SettleCase> {
     let mut cases = Vec::new();
     for shape in SHAPES {
-        for count in 0..=MOST {
+        for count in 0..=ROW_POINTS_MOST {
             let points: Vec<(i32, u32)> = (0..count).map(shape).collect();
             for range in ranges(&points) {
                 cases.push(all_rows(&points, range));
@@ -105,18 +101,22 @@ fn all_rows(points: &[(i32, u32)], range: (u32, u32)) -> SettleCase {
         .iter()
         .map(|(price, kw)| point(*price, *kw))
         .collect();
-    settling_of(&ids, IntervalFile::new(30_000, 365, 1_000, words, points))
+    settling_of(
+        &ids,
+        IntervalFile::new(NET_CONE, DAYS, 1_000, words, points),
+    )
 }
 
 #[cfg(test)]
 mod tests {
     use super::super::answer;
     use super::*;
+    use npa_tests::layout::ROWS_MOST;
 
     #[test]
     fn all_curves_are_accepted() {
         for case in cases() {
-            assert!(case.file.rows.len() <= 512);
+            assert!(case.file.rows.len() <= ROWS_MOST);
             assert_eq!(answer(&case), 0);
         }
     }

@@ -1,11 +1,9 @@
 //! Sums and products as large as they get.
 
 use super::ledger_bounds::{at_terms, set_carried, LARGEST};
-use super::{needed, with};
-use npa_tests::layout::{point, Ledger, Row};
-use npa_tests::random::{rising, SettleCase, POOL_MOST};
-
-const KW_MOST: u32 = 4_000_000;
+use super::with;
+use npa_tests::layout::{point, result_bytes, Ledger, Row, IMPORTS_MOST, KW_MOST, POOL_MOST};
+use npa_tests::random::{rising, SettleCase};
 
 pub fn cases() -> Vec<SettleCase> {
     let mut cases = Vec::new();
@@ -64,12 +62,10 @@ fn given(rows: usize, row: Row) -> Vec<SettleCase> {
     }
     .words();
     case.file.head[4] = 1;
-    case.result_length = needed(rows);
-    let second = 40 + case.file.row_bytes();
-    case.file
-        .place(40, second, second + case.file.point_bytes());
+    case.result_length = result_bytes(rows);
+    case.file.place_plainly();
     let mut cases = Vec::new();
-    for imports in [40_000_000, -40_000_000] {
+    for imports in [IMPORTS_MOST, -IMPORTS_MOST] {
         for carried in [0, POOL_MOST] {
             cases.push(with(&case, |case| {
                 case.file.head[5] = imports as u32;

@@ -1,7 +1,7 @@
 //! Faults of every ground, one and two at a time, for the order of the grounds.
 
 use super::ledger_bounds::full_pool;
-use super::needed;
+use npa_tests::layout::{ledger_bytes, result_bytes, FILE_MOST};
 use npa_tests::random::SettleCase;
 
 /// A fault that makes a settling with a full pool one to refuse on this ground.
@@ -20,7 +20,7 @@ fn raise(word: &mut u64, value: u64) {
 const LEDGER: [Fault; 13] = [
     (6, |case| case.ledger.length = 0),
     (6, |case| case.ledger.length = 63),
-    (6, |case| case.ledger.length = 191),
+    (6, |case| case.ledger.length = ledger_bytes(4) - 1),
     (6, |case| case.ledger.words[0] = 2),
     (6, |case| case.ledger.words[1] += 1),
     (6, |case| case.ledger.words[2] += 1),
@@ -36,7 +36,7 @@ const LEDGER: [Fault; 13] = [
 const FILE: [Fault; 21] = [
     (7, |case| case.file.length = 0),
     (7, |case| case.file.length = 39),
-    (7, |case| case.file.length = 49_153),
+    (7, |case| case.file.length = FILE_MOST + 1),
     (7, |case| case.file.head[0] = 2),
     (8, |case| case.file.head[2] -= 1),
     (8, |case| case.file.head[3] = 365),
@@ -53,7 +53,7 @@ const FILE: [Fault; 21] = [
     (11, |case| case.file.head[9] = 0xffff_ffd0),
     (11, |case| case.file.head[9] = 265),
     (15, |case| case.result_length = 0),
-    (15, |case| case.result_length = needed(4) - 1),
+    (15, |case| case.result_length = result_bytes(4) - 1),
     (16, |case| {
         case.ledger.accounts[1][2] += 1;
         case.ledger.words[4] += 1;

@@ -1,7 +1,7 @@
 //! Grounds 7, 8, 9, 11 and 15: files and result buffers on both sides of every bound.
 
-use super::{listing, needed, plain, short_row, with};
-use npa_tests::layout::point;
+use super::{listing, plain, short_row, with};
+use npa_tests::layout::{point, result_bytes, FILE_MOST, HEADER_BYTES, IMPORTS_MOST, ROWS_MOST};
 use npa_tests::random::{rising, SettleCase};
 
 const TOP: u32 = 1 << 31;
@@ -54,7 +54,7 @@ fn header_words() -> Vec<SettleCase> {
 
 /// Imports at their bounds and around 0, region-wide and not.
 fn imports() -> Vec<SettleCase> {
-    let most = 40_000_000;
+    let most = IMPORTS_MOST;
     let far = [i32::MIN, i32::MIN + 1, i32::MAX];
     let near = (-2..=2)
         .chain(most - 2..=most + 2)
@@ -98,8 +98,8 @@ fn counts() -> Vec<SettleCase> {
             let case = with(&listing(), |case| case.file.head[word] = count);
             // Room for all that a count may claim.
             cases.push(with(&case, |case| {
-                case.file.length = 49_152;
-                case.result_length = needed(513);
+                case.file.length = FILE_MOST;
+                case.result_length = result_bytes(ROWS_MOST + 1);
             }));
             cases.push(case);
         }
@@ -114,11 +114,10 @@ fn full_tables() -> Vec<SettleCase> {
         for points in [0, 1, 2_047, 2_048, 2_049] {
             let mut case = plain(512, rows);
             case.file.points = vec![point(0, 5); points];
-            let second = 40 + case.file.row_bytes();
-            let end = second + case.file.point_bytes();
-            case.file.place(40, second, end);
+            case.file.place_plainly();
             cases.push(case.clone());
-            case.file.place(40 + case.file.point_bytes(), 40, end);
+            let rows_at = HEADER_BYTES + case.file.point_bytes();
+            case.file.place(rows_at, HEADER_BYTES, case.file.length);
             cases.push(case);
         }
     }
@@ -226,7 +225,7 @@ fn nested_tables() -> Vec<SettleCase> {
         cases.push(case.clone());
         case.file.rows = vec![short_row(rising(1)[0])];
         case.file.points = vec![point(0, 5); 20];
-        case.result_length = needed(1);
+        case.result_length = result_bytes(1);
         case.file.place(at, 48, 260);
         cases.push(case);
     }
@@ -238,7 +237,7 @@ fn rooms() -> Vec<SettleCase> {
     let mut cases = Vec::new();
     for rows in [1, 2, 4, 511, 512] {
         let case = plain(512, rows);
-        let needed = needed(rows);
+        let needed = result_bytes(rows);
         let lengths = (0..=65).chain(needed - 65..=needed + 65);
         for length in lengths.chain([needed + 4_096]) {
             cases.push(with(&case, |case| case.result_length = length));

@@ -1,12 +1,12 @@
 //! Grounds 6, 10 and 16: ledgers on both sides of every bound.
 
 use super::{listing, plain, with};
-use npa_tests::layout::Ledger;
-use npa_tests::random::{limit, SettleCase, POOL_MOST};
+use npa_tests::layout::{self, limit, Ledger, POOL_MOST};
+use npa_tests::random::SettleCase;
 
 const HIGH: u64 = 1 << 32;
 const TOP: u64 = 1 << 63;
-const KW_MOST: u64 = 4_000_000;
+const KW_MOST: u64 = layout::KW_MOST as u64;
 /// Net CONE and days at which limits are largest.
 pub const LARGEST: (u32, u32) = (200_000, 366);
 /// The charges of the listing's file at these terms.

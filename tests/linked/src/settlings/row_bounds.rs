@@ -1,10 +1,9 @@
 //! Grounds 12, 13 and 14: rows and points on both sides of every bound.
 
 use super::{listing, with};
-use npa_tests::layout::point;
+use npa_tests::layout::{point, KW_MOST, PRICE_MOST};
 use npa_tests::random::SettleCase;
 
-const KW_MOST: u32 = 4_000_000;
 const TOP: u32 = 1 << 31;
 
 pub fn cases() -> Vec<SettleCase> {
@@ -51,9 +50,7 @@ fn rosters() -> Vec<SettleCase> {
             .filter(|row| chosen >> row & 1 == 1)
             .map(|row| rows[row])
             .collect();
-        let second = 40 + case.file.row_bytes();
-        case.file
-            .place(40, second, second + case.file.point_bytes());
+        case.file.place_plainly();
         cases.push(case);
         // The accounts of some rows, and the rows of all.
         let mut case = listing();
@@ -102,9 +99,10 @@ fn kilowatts() -> Vec<SettleCase> {
 
 /// Metered, adjustment and LMP at their bounds.
 fn signed_words() -> Vec<SettleCase> {
+    let kw = KW_MOST as i32;
     let mut cases = Vec::new();
     for row in 0..4 {
-        for (word, most) in [(4, 4_000_000), (5, 4_000_000), (11, 1_000_000)] {
+        for (word, most) in [(4, kw), (5, kw), (11, PRICE_MOST)] {
             let near = (-1..=1)
                 .chain(most - 1..=most + 1)
                 .chain(-most - 1..=1 - most);
@@ -114,8 +112,8 @@ fn signed_words() -> Vec<SettleCase> {
         }
         for (metered, adjustment) in [(1, 1), (1, -1), (-1, 1), (-1, -1)] {
             cases.push(with(&listing(), |case| {
-                case.file.rows[row][4] = (4_000_000 * metered) as u32;
-                case.file.rows[row][5] = (4_000_000 * adjustment) as u32;
+                case.file.rows[row][4] = (kw * metered) as u32;
+                case.file.rows[row][5] = (kw * adjustment) as u32;
             }));
         }
     }
@@ -175,9 +173,7 @@ fn with_curve(count: usize) -> SettleCase {
         (row[12], row[13]) = (0, count.min(2) as u32);
     }
     case.file.rows[3][13] = count as u32;
-    let second = 40 + case.file.row_bytes();
-    case.file
-        .place(40, second, second + case.file.point_bytes());
+    case.file.place_plainly();
     case
 }
 
@@ -223,7 +219,7 @@ fn curve_words() -> Vec<SettleCase> {
         for index in 0..count {
             let case = with_curve(count);
             let [price, kw] = case.file.points[index];
-            let most = 1_000_000;
+            let most = PRICE_MOST;
             let bounds = (-most - 1..=1 - most).chain(most - 1..=most + 1);
             let prices = bounds.chain([i32::MIN, i32::MAX]).map(|price| price as u32);
             let steps =

@@ -1,0 +1,552 @@
+//! Damage: one field set to one side or the other of a ground's boundary.
+
+use super::world::{lay_out, pool_at_limit, spread_credits, valid_open, valid_settle, World};
+use super::{OpenCase, Rng, SettleCase, Size};
+use crate::layout::{
+    ledger_bytes, limit, result_bytes, IntervalFile, Ledger, Opening, BLOCK_MOST, CREDITED_MOST,
+    DAY_INTERVALS, FILE_MOST, HEADER_BYTES, IDS_MOST, IMPORTS_MOST, KW_MOST, OPENING_BYTES,
+    POINTS_MOST, POOL_MOST, PRICE_MOST, ROWS_MOST, ROW_POINTS_MOST,
+};
+
+/// The lowest bit of a word's upper half.
+const HIGH: u64 = 1 << 32;
+
+// ---------------------------------------------------------------- openings
+
+/// An opening with one field damaged for this ground.
+pub(crate) fn damaged_open(rng: &mut Rng, size: &Size, ground: u32) -> OpenCase {
+    let mut case = valid_open(rng, size);
+    damage_open(rng, size, ground, &mut case);
+    case
+}
+
+/// Sets a field of an opening to one side or the other of a ground's boundary.
+pub(super) fn damage_open(rng: &mut Rng, size: &Size, ground: u32, case: &mut OpenCase) {
+    match ground {
+        1 => {
+            let opening = &mut case.opening;
+            damage_whole(
+                rng,
+                size,
+                (OPENING_BYTES, BLOCK_MOST),
+                &mut opening.length,
+                &mut opening.words[0],
+            );
+        }
+        2 => damage_opening_terms(rng, &mut case.opening),
+        3 => damage_id_table(rng, size, case),
+        4 => damage_ids(rng, &mut case.opening.ids),
+        _ => damage_room(
+            rng,
+            ledger_bytes(case.opening.ids.len()),
+            &mut case.ledger_length,
+        ),
+    }
+}
+
+/// Grounds 1 and 7: a length around the least and the most, or another format.
+fn damage_whole(
+    rng: &mut Rng,
+    size: &Size,
+    (least, most): (usize, usize),
+    length: &mut usize,
+    format: &mut u32,
+) {
+    if size.long && rng.one_in(3) {
+        *length = rng.pick(&[most, most + 1]);
+    } else if rng.one_in(2) {
+        *length = rng.pick(&[0, 4, least - 1, least]);
+    } else {
+        *format = rng.pick(&[0, 2, 257, 0x0100_0001, u32::MAX]);
+    }
+}
+
+/// Ground 2: Net CONE and days.
+fn damage_opening_terms(rng: &mut Rng, opening: &mut Opening) {
+    if rng.one_in(2) {
+        opening.words[1] = rng.pick(&[0, 1, 200_000, 200_001, 1 << 31, u32::MAX]);
+    } else {
+        opening.words[2] = rng.pick(&[0, 364, 365, 366, 367, 365 + 65_536, u32::MAX]);
+    }
+}
+
+/// Ground 3: number and place of the ids.
+fn damage_id_table(rng: &mut Rng, size: &Size, case: &mut OpenCase) {
+    let opening = &mut case.opening;
+    let count = opening.ids.len() as u32;
+    let bytes = 4 * count;
+    let end = opening.length as u32;
+    match rng.below(6) {
+        0 if size.long => {
+            let ids: Vec<u32> = (1..=IDS_MOST as u32 + rng.below(2) as u32).collect();
+            case.ledger_length = ledger_bytes(ids.len());
+            *opening = Opening::new(opening.words[1], opening.words[2], &ids);
+        }
+        0 | 1 => {
+            let wrapping = (1 << 30) + count;
+            let counts = [0, count - 1, count + 1, 512, 513, wrapping, u32::MAX];
+            opening.words[3] = size.pick_count(rng, &counts);
+        }
+        2 => opening.words[4] = rng.pick(&[0, 16, 19, 20, end - bytes, end - bytes + 1, end]),
+        3 => {
+            let wrap = 0u32.wrapping_sub(bytes);
+            let offsets = [wrap, wrap.wrapping_add(20), wrap.wrapping_add(end)];
+            let far = rng.pick(&[u32::MAX, 1 << 31]);
+            opening.words[4] = rng.pick(&[far, offsets[0], offsets[1], offsets[2]]);
+        }
+        4 => opening.place(rng.pick(&[19, 20, 21]), 0),
+        _ => {
+            opening.place(20, 0);
+            opening.length -= rng.index(2);
+        }
+    }
+}
+
+/// Ground 4: an id of 0, or one that does not rise.
+fn damage_ids(rng: &mut Rng, ids: &mut [u32]) {
+    let index = rng.index(ids.len());
+    if index == 0 || rng.one_in(5) {
+        ids[index] = 0;
+        return;
+    }
+    let before = ids[index - 1];
+    match rng.below(4) {
+        0 => ids[index] = before,
+        1 => ids[index] = before - 1,
+        2 => ids[index] = before.saturating_add(1),
+        _ => ids.swap(index - 1, index),
+    }
+}
+
+/// Grounds 5, 6 and 15: the length of a buffer that is written.
+fn damage_room(rng: &mut Rng, needed: usize, length: &mut usize) {
+    let far = rng.pick(&[0, 63, 64, needed - 32]);
+    let short = needed - 1;
+    *length = rng.pick(&[far, short, short, short, needed, needed + 1]);
+}
+
+// ---------------------------------------------------------------- settlings
+
+/// A settling with one field damaged for this ground.
+pub(super) fn damaged_settle(rng: &mut Rng, size: &Size, ground: u32) -> SettleCase {
+    let mut case = valid_settle(rng, size);
+    damage_settle(rng, size, ground, &mut case);
+    case
+}
+
+/// Sets a field of a settling to one side or the other of a ground's boundary.
+pub(crate) fn damage_settle(rng: &mut Rng, size: &Size, ground: u32, case: &mut SettleCase) {
+    match ground {
+        6 => damage_ledger(rng, size, case),
+        7 => {
+            let file = &mut case.file;
+            damage_whole(
+                rng,
+                size,
+                (HEADER_BYTES, FILE_MOST),
+                &mut file.length,
+                &mut file.head[0],
+            );
+        }
+        8 => damage_file_terms(rng, &mut case.file),
+        9 => damage_event(rng, &mut case.file),
+        10 => damage_order(rng, case),
+        11 => damage_tables(rng, size, &mut case.file),
+        12 => damage_row_ids(rng, case),
+        13 => damage_row(rng, &mut case.file),
+        14 => damage_points(rng, size, &mut case.file),
+        15 => damage_room(
+            rng,
+            result_bytes(case.file.rows.len()),
+            &mut case.result_length,
+        ),
+        _ => *case = pool_at_limit(rng, size),
+    }
+}
+
+/// Ground 6: any part of the ledger.
+fn damage_ledger(rng: &mut Rng, size: &Size, case: &mut SettleCase) {
+    match rng.below(12) {
+        0 => {
+            let needed = ledger_bytes(case.ledger.accounts.len());
+            damage_room(rng, needed, &mut case.ledger.length);
+        }
+        1..=3 => damage_ledger_words(rng, size, &mut case.ledger),
+        4 => damage_ledger_ids(rng, &mut case.ledger),
+        5 | 6 => damage_charged(rng, &mut case.ledger),
+        7 => damage_credited(rng, &mut case.ledger),
+        8 | 9 => damage_balance(rng, &mut case.ledger),
+        10 => {
+            let most = u64::from(KW_MOST);
+            let index = rng.index(case.ledger.accounts.len());
+            case.ledger.accounts[index][1] = rng.pick(&[most, most + 1, HIGH, HIGH + 5, u64::MAX]);
+        }
+        _ => {
+            let world = World::heavy(rng, size);
+            let carried = POOL_MOST + rng.below(2);
+            case.ledger = world.heavy_ledger(rng, carried);
+            let interval = rng.below(world.intervals().into()) as u32;
+            case.file = world.file(rng, size, interval);
+            case.result_length = result_bytes(case.file.rows.len());
+        }
+    }
+}
+
+/// The first words of a ledger, also with bits above the lower 32.
+fn damage_ledger_words(rng: &mut Rng, size: &Size, ledger: &mut Ledger) {
+    let [_, net_cone, days, ..] = ledger.words;
+    let last = u64::from(DAY_INTERVALS) * days;
+    match rng.below(7) {
+        0 => ledger.words[0] = rng.pick(&[0, 2, HIGH + 1, u64::MAX]),
+        1 => ledger.words[1] = rng.pick(&[0, 200_001, HIGH + net_cone, 1 << 63]),
+        2 => ledger.words[2] = rng.pick(&[0, 364, 367, HIGH + days, 1 << 63]),
+        3 => ledger.words[3] = rng.pick(&[last, last + 1, HIGH, u64::MAX]),
+        4 => damage_account_count(rng, size, ledger),
+        5 => ledger.words[6] = rng.pick(&[0, 7, 9, 64, HIGH + 8]),
+        _ => ledger.words[7] = rng.pick(&[1, HIGH, 1 << 63]),
+    }
+}
+
+/// The number of accounts; 512 and 513 of them may really be there.
+fn damage_account_count(rng: &mut Rng, size: &Size, ledger: &mut Ledger) {
+    let count = ledger.words[5];
+    if size.long && rng.one_in(2) {
+        let last = ledger.accounts[ledger.accounts.len() - 1][0];
+        let wanted = IDS_MOST as u64 + rng.below(2);
+        for index in count..wanted {
+            ledger.accounts.push([last + 1 + index, 0, 0, 0]);
+        }
+        ledger.words[5] = wanted;
+        ledger.length = ledger_bytes(wanted as usize);
+    } else if size.count == u32::MAX && rng.one_in(2) {
+        ledger.words[5] = rng.pick(&[HIGH + count, (1 << 59) + count, u64::MAX]);
+    } else {
+        ledger.words[5] = rng.pick(&[0, count + 1, count - 1, 512, 513]);
+    }
+}
+
+/// The ids of a ledger, also with bits above the lower 32.
+fn damage_ledger_ids(rng: &mut Rng, ledger: &mut Ledger) {
+    let index = rng.index(ledger.accounts.len());
+    if index == 0 || rng.one_in(5) {
+        ledger.accounts[index][0] = rng.pick(&[0, HIGH]);
+        return;
+    }
+    let before = ledger.accounts[index - 1][0];
+    match rng.below(4) {
+        0 => ledger.accounts[index][0] = before,
+        1 => ledger.accounts[index][0] = before - 1,
+        2 => ledger.accounts[index - 1][0] += HIGH,
+        _ => {
+            let high = HIGH + rng.below(before + 1);
+            ledger.accounts[index][0] = high;
+        }
+    }
+}
+
+/// A charged sum at its limit or one above, with sums that balance.
+fn damage_charged(rng: &mut Rng, ledger: &mut Ledger) {
+    let (net_cone, days) = (ledger.words[1], ledger.words[2]);
+    let index = rng.index(ledger.accounts.len());
+    let account = &mut ledger.accounts[index];
+    let limit = limit(net_cone, days, account[1].min(KW_MOST.into()));
+    account[2] = limit + rng.below(2);
+    rebalance(rng, ledger);
+}
+
+/// Makes the credited sums fit the charged sums and the carried cents.
+fn rebalance(rng: &mut Rng, ledger: &mut Ledger) {
+    let total: u64 = ledger.accounts.iter().map(|account| account[2]).sum();
+    ledger.words[4] = ledger.words[4].min(total).min(POOL_MOST);
+    let credited = total - ledger.words[4];
+    spread_credits(rng, ledger, credited);
+}
+
+/// A credited sum at its bound, or two that balance only if they wrap.
+fn damage_credited(rng: &mut Rng, ledger: &mut Ledger) {
+    let index = rng.index(ledger.accounts.len());
+    if index > 0 && rng.one_in(2) {
+        let half = 1 << 63;
+        ledger.accounts[index - 1][3] = ledger.accounts[index - 1][3].wrapping_add(half);
+        ledger.accounts[index][3] = ledger.accounts[index][3].wrapping_add(half);
+    } else {
+        ledger.accounts[index][3] = rng.pick(&[CREDITED_MOST, CREDITED_MOST + 1, u64::MAX]);
+    }
+}
+
+/// One of the sums off by one, or by a multiple of 2^32.
+fn damage_balance(rng: &mut Rng, ledger: &mut Ledger) {
+    let index = rng.index(ledger.accounts.len());
+    let account = &mut ledger.accounts[index];
+    match rng.below(6) {
+        0 => account[2] = account[2].saturating_sub(1),
+        1 => account[3] += 1,
+        2 => account[3] = account[3].saturating_sub(1),
+        3 => ledger.words[4] += 1,
+        4 => ledger.words[4] = ledger.words[4].saturating_sub(1),
+        _ => account[3] += HIGH,
+    }
+}
+
+/// Ground 8: terms other than the ledger's.
+fn damage_file_terms(rng: &mut Rng, file: &mut IntervalFile) {
+    if rng.one_in(2) {
+        let value = file.head[2];
+        file.head[2] = rng.pick(&[value - 1, value + 1, value ^ (1 << 31), 0, value]);
+    } else {
+        file.head[3] = rng.pick(&[0, 364, 365, 366, 367, file.head[3] + 65_536]);
+    }
+}
+
+/// Ground 9: interval, region-wide and imports.
+fn damage_event(rng: &mut Rng, file: &mut IntervalFile) {
+    let end = DAY_INTERVALS.wrapping_mul(file.head[3]);
+    match rng.below(4) {
+        0 | 1 => file.head[1] = rng.pick(&[end.wrapping_sub(1), end, end, u32::MAX, 1 << 31]),
+        2 => file.head[4] = rng.pick(&[0, 1, 2, 256, u32::MAX]),
+        _ => {
+            let most = IMPORTS_MOST;
+            let values = [most, most + 1, -most, -most - 1, i32::MIN, i32::MAX];
+            file.head[5] = rng.pick(&values) as u32;
+        }
+    }
+}
+
+/// Ground 10: the interval next to the earliest one, or a year that is over.
+fn damage_order(rng: &mut Rng, case: &mut SettleCase) {
+    let interval = u64::from(case.file.head[1]);
+    case.ledger.words[3] = match rng.below(6) {
+        0 => interval,
+        1 => u64::from(DAY_INTERVALS) * case.ledger.words[2],
+        _ => interval + 1,
+    };
+}
+
+/// Ground 11: number and place of the tables.
+fn damage_tables(rng: &mut Rng, size: &Size, file: &mut IntervalFile) {
+    let (rows, points) = (file.rows.len() as u32, file.points.len() as u32);
+    let end = file.length as u32;
+    match rng.below(10) {
+        0 => {
+            let counts = [0, rows - 1, rows + 1, 512, 513, 1 << 26, 1 << 29, u32::MAX];
+            file.head[6] = size.pick_count(rng, &counts);
+        }
+        1 => {
+            let counts = [points + 1, 600, 2048, 2049, 1 << 29, (1 << 29) + points];
+            file.head[8] = size.pick_count(rng, &counts);
+        }
+        2 => file.head[7] = edge_offset(rng, file.row_bytes() as u32, end),
+        3 => file.head[9] = edge_offset(rng, file.point_bytes() as u32, end),
+        4 => {
+            let start = rng.pick(&[39, 40, 41]);
+            let points_at = start + file.row_bytes();
+            file.place(start, points_at, points_at + file.point_bytes());
+        }
+        5 => clear_points(rng, file),
+        6 => {
+            lay_out(rng, &Size { gap: 0, ..*size }, file);
+            file.length -= rng.index(2);
+        }
+        7 if size.long => fill_table(rng, size, file),
+        _ => overlap(rng, file),
+    }
+}
+
+/// As many rows or points as are allowed, or one more, all really there.
+fn fill_table(rng: &mut Rng, size: &Size, file: &mut IntervalFile) {
+    if rng.one_in(2) {
+        file.points.resize(POINTS_MOST + rng.index(2), [0, 0]);
+    } else {
+        let last = file.rows[file.rows.len() - 1];
+        file.rows.resize(ROWS_MOST + rng.index(2), last);
+    }
+    lay_out(rng, size, file);
+}
+
+/// An offset at an end of the file, or one that fits only if it wraps.
+fn edge_offset(rng: &mut Rng, bytes: u32, end: u32) -> u32 {
+    let near = end.saturating_sub(bytes);
+    let wrap = 0u32.wrapping_sub(bytes);
+    match rng.below(3) {
+        0 => rng.pick(&[0, 39, 40, near, near + 1]),
+        1 => rng.pick(&[end, end + 1, 1 << 31, u32::MAX]),
+        _ => rng.pick(&[wrap, wrap.wrapping_add(40), wrap.wrapping_add(end)]),
+    }
+}
+
+/// No points, with their offset in and around the file.
+fn clear_points(rng: &mut Rng, file: &mut IntervalFile) {
+    file.points.clear();
+    for row in &mut file.rows {
+        row[13] = 0;
+    }
+    let end = file.rows_at + file.row_bytes();
+    let length = end + rng.index(3);
+    file.place(file.rows_at, 40, length);
+    let inside = file.rows_at as u32 + 1;
+    let length = length as u32;
+    file.head[9] = rng.pick(&[0, 39, 40, inside, length, length + 1, u32::MAX]);
+}
+
+/// Tables that touch or share one byte, in either order, or start together.
+fn overlap(rng: &mut Rng, file: &mut IntervalFile) {
+    if file.points.is_empty() {
+        file.points.push([0, 0]);
+    }
+    let (rows, points) = (file.row_bytes(), file.point_bytes());
+    let shared = rng.index(2);
+    let start = HEADER_BYTES + rng.index(3);
+    match rng.below(5) {
+        0 | 1 => {
+            let second = start + rows - shared;
+            file.place(start, second, second + points);
+        }
+        2 | 3 => {
+            let second = start + points - shared;
+            file.place(second, start, second + rows);
+        }
+        _ => file.place(start, start + 8 * shared, start + rows + points + 8),
+    }
+}
+
+/// Ground 12: row ids that do not rise or have no account.
+fn damage_row_ids(rng: &mut Rng, case: &mut SettleCase) {
+    let rows = &mut case.file.rows;
+    let index = rng.index(rows.len());
+    let id = rows[index][0];
+    match rng.below(7) {
+        0 => rows[index][0] = id.wrapping_add(1),
+        1 => rows[index][0] = id.wrapping_sub(1),
+        2 => rows[index][0] = rng.pick(&[0, u32::MAX]),
+        3 if index > 0 => rows[index][0] = rows[index - 1][0],
+        4 if index > 0 => {
+            rows[index][0] = rows[index - 1][0];
+            rows[index - 1][0] = id;
+        }
+        3..=5 => {
+            let account = case
+                .ledger
+                .accounts
+                .iter_mut()
+                .find(|a| a[0] == u64::from(id));
+            if let Some(account) = account {
+                account[0] += HIGH;
+            }
+        }
+        _ => {
+            let last = case.ledger.accounts.len() - 1;
+            case.ledger.accounts[last][0] |= HIGH;
+        }
+    }
+}
+
+/// Ground 13: one word of a row at or beyond its bound.
+fn damage_row(rng: &mut Rng, file: &mut IntervalFile) {
+    let most = KW_MOST as i32;
+    let price = PRICE_MOST;
+    let index = rng.index(file.rows.len());
+    let row = &mut file.rows[index];
+    let word = rng.pick(&[1, 2, 3, 4, 5, 6, 7, 8, 9, 9, 10, 11, 11, 14]);
+    match word {
+        1 => row[1] = rng.pick(&[3, 4, 5, 255, 256, u32::MAX]),
+        4 | 5 => {
+            let values = [most, most + 1, -most, -most - 1, i32::MIN, i32::MAX];
+            row[word] = rng.pick(&values) as u32;
+        }
+        9 if rng.one_in(2) => row[9] = row[8] + rng.below(2) as u32,
+        10 => row[10] = rng.pick(&[0, 1, 2, 256, u32::MAX]),
+        11 => {
+            let values = [price, price + 1, -price, -price - 1, i32::MIN, i32::MAX];
+            row[11] = rng.pick(&values) as u32;
+        }
+        14 => (row[1], row[2]) = (4, rng.below(2) as u32),
+        _ => {
+            row[word] = rng.pick(&[KW_MOST, KW_MOST + 1, 1 << 31, u32::MAX]);
+            if word == 9 && rng.one_in(2) {
+                row[8] = rng.pick(&[row[9], KW_MOST]);
+            }
+        }
+    }
+}
+
+/// Ground 14: number, place and values of a row's points.
+fn damage_points(rng: &mut Rng, size: &Size, file: &mut IntervalFile) {
+    let index = rng.index(file.rows.len());
+    match rng.below(8) {
+        0 => {
+            let count = ROW_POINTS_MOST + rng.index(2);
+            append_curve(rng, size, file, index, count);
+        }
+        1 => {
+            file.rows[index][12] = rng.pick(&[0, 1, 1 << 31, u32::MAX]);
+            file.rows[index][13] = 0;
+        }
+        2 => {
+            let count = size.pick_count(rng, &[10, 11, 12, 255, 256, 600, 1 << 31, u32::MAX]);
+            file.rows[index][13] = count;
+        }
+        3 | 4 => damage_first_point(rng, file, index),
+        _ => {
+            let count = 1 + rng.index(4);
+            append_curve(rng, size, file, index, count);
+            damage_curve(rng, file, index);
+        }
+    }
+}
+
+/// Gives a row a fresh curve at the table's end.
+fn append_curve(rng: &mut Rng, size: &Size, file: &mut IntervalFile, row: usize, count: usize) {
+    if file.points.len() + count > POINTS_MOST {
+        return;
+    }
+    let first = file.points.len() as u32;
+    for step in 0..count as i64 {
+        let price = -2_000 + 500 * step + rng.between(0, 499);
+        let kw = (1_000 * step) as u64 + rng.below(1_000);
+        file.points.push([price as i32 as u32, kw as u32]);
+    }
+    file.rows[row][12] = first;
+    file.rows[row][13] = count as u32;
+    lay_out(rng, size, file);
+}
+
+/// A first point at the table's end, behind it, or in it only if it wraps.
+fn damage_first_point(rng: &mut Rng, file: &mut IntervalFile, row: usize) {
+    let points = file.points.len() as u32;
+    let row = &mut file.rows[row];
+    if row[13] == 0 {
+        row[13] = 1;
+    }
+    let near = points.saturating_sub(row[13]);
+    let wrap = 0u32.wrapping_sub(row[13]);
+    let high = row[12].wrapping_add(rng.pick(&[1 << 29, 1 << 31]));
+    row[12] = rng.pick(&[near, near + 1, points, wrap, u32::MAX, high]);
+}
+
+/// One word of a curve at or beyond its bound, level with the one before or below it.
+fn damage_curve(rng: &mut Rng, file: &mut IntervalFile, row: usize) {
+    let price = PRICE_MOST;
+    let first = file.rows[row][12] as usize;
+    let count = file.rows[row][13] as usize;
+    let points = file.points.get_mut(first..first + count);
+    let Some(points) = points.filter(|points| !points.is_empty()) else {
+        return;
+    };
+    let index = rng.index(count);
+    match rng.below(6) {
+        0 => points[0][0] = rng.pick(&[-price, -price - 1, i32::MIN]) as u32,
+        1 => points[count - 1][0] = rng.pick(&[price, price + 1, i32::MAX]) as u32,
+        2 => points[count - 1][1] = rng.pick(&[KW_MOST, KW_MOST + 1, 1 << 31, u32::MAX]),
+        3 if index > 0 => {
+            points[index][0] = points[index - 1][0].wrapping_sub(rng.below(2) as u32);
+        }
+        4 if index > 0 => {
+            points[index][1] = points[index - 1][1].saturating_sub(rng.below(2) as u32);
+        }
+        3 | 4 => points[0][1] = 0,
+        _ => {
+            let word = rng.index(2);
+            points[index][word] = rng.draw() as u32;
+        }
+    }
+}
