@@ -1,6 +1,8 @@
 // What a row's curve says at its LMP: the scheduled kW, and whether a PRD row is considered.
 
 use crate::rules::above as excess;
+use crate::rules::greater;
+use crate::rules::lesser;
 use crate::units::Kilowatts;
 use reading::interval::COMMITTED;
 use reading::interval::KIND;
@@ -16,7 +18,7 @@ use reading::interval::word;
 ghost use mathlib.Core.Path.{_≡_};
 ghost use mathlib.Core.Bool.{true, false};
 ghost use mathlib.Core.List.{_∷_, []};
-ghost use Prim.Native.Nat.{_+_, _-_, _*_, _/_, _≤_, _<_, _^_, min, max};
+ghost use Prim.Native.Nat.{_+_, _-_, _*_, _/_, _≤_, _<_, _^_};
 ghost use lib.ListN.{length, drop};
 ghost use lib.IntN.{natAbs, _-ℤ_};
 ghost use lib.Signed.{leZ, ltZ, mag};
@@ -50,14 +52,6 @@ fn reached(points: &[u8], i: usize, lmp: i64) -> bool
     ensures { λ r. ⌜ r ≡ leZ (pointOf (drop (pointBytes * i) (now (points .entry))) .price) lmp ⌝ }
 {
     price(points, i) <= lmp
-}
-
-// Whether the LMP is below the price of point i.
-fn below(points: &[u8], i: usize, lmp: i64) -> bool
-    requires { ⌜ 8 * i + 8 ≤ length (now points) ⌝ }
-    ensures { λ r. ⌜ r ≡ ltZ lmp (pointOf (drop (pointBytes * i) (now (points .entry))) .price) ⌝ }
-{
-    lmp < price(points, i)
 }
 
 // Whether the LMP is above the price of point i.
@@ -162,22 +156,6 @@ fn minimum_online(row: &[u8]) -> Kilowatts
     Kilowatts(0)
 }
 
-// Raised to a least and cut to a most.
-fn limited(x: Kilowatts, least: Kilowatts, most: Kilowatts) -> Kilowatts
-    ensures { λ r. ⌜ r .0 ≡ min (max (x .0) (least .0)) (most .0) ⌝ }
-{
-    if most.0 <= x.0 {
-        return most;
-    }
-    if most.0 <= least.0 {
-        return most;
-    }
-    if x.0 <= least.0 {
-        return least;
-    }
-    x
-}
-
 // Scheduled, of a row and the part of its file that starts at its first point.
 pub fn scheduled(row: &[u8], points: &[u8]) -> Kilowatts
     requires { ⌜ 56 ≤ length (now row) ⌝ }
@@ -191,14 +169,15 @@ pub fn scheduled(row: &[u8], points: &[u8]) -> Kilowatts
     }
     let lmp = signed_word(row, LMP);
     let least = minimum_online(row);
-    if below(points, 0, lmp) {
+    if !reached(points, 0, lmp) {
         return least;
     }
     let most = Kilowatts(word(row, MAXIMUM));
     if above(points, n - 1, lmp) {
         return most;
     }
-    limited(on_curve(points, n, lmp), least, most)
+    let along = on_curve(points, n, lmp);
+    Kilowatts(lesser(greater(along.0, least.0), most.0))
 }
 
 // Considered: every row of a kind; of PRD rows only one whose last point at or below the LMP is above 0 kW.

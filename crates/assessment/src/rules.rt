@@ -16,9 +16,11 @@ use reading::interval::REGION_WIDE;
 use reading::interval::signed_word;
 use reading::interval::word;
 ghost use mathlib.Core.Path.{_≡_};
+ghost use mathlib.Core.Bool.{cond};
 ghost use mathlib.Core.List.{[]};
-ghost use Prim.Native.Nat.{_+_, _-_, _*_, _≤_, _<_, _^_, min, max};
+ghost use Prim.Native.Nat.{_+_, _-_, _*_, _/_, _≤_, _<_, _^_, min, max};
 ghost use lib.ListN.{length};
+ghost use lib.Dec.{eqb};
 ghost use lib.IntN.{_+ℤ_};
 ghost use lib.Signed.{mag};
 ghost use Rattle.words.specs.Words.{word32};
@@ -49,7 +51,7 @@ const LIMIT_DIVISOR: u64 = 2000;
 
 const CHARGE_DIVISOR: u64 = 360000;
 
-fn lesser(a: u64, b: u64) -> u64
+pub fn lesser(a: u64, b: u64) -> u64
     ensures { λ r. ⌜ r ≡ min a b ⌝ }
 {
     if a < b {
@@ -58,7 +60,7 @@ fn lesser(a: u64, b: u64) -> u64
     b
 }
 
-fn greater(a: u64, b: u64) -> u64
+pub fn greater(a: u64, b: u64) -> u64
     ensures { λ r. ⌜ r ≡ max a b ⌝ }
 {
     if a < b {
@@ -75,6 +77,17 @@ pub fn above(a: u64, b: u64) -> u64
         return 0;
     }
     a - b
+}
+
+// A product over a divisor, rounded down once, and 0 without a divisor.
+fn quotient(x: u64, y: u64, d: u64) -> u64
+    requires { ⌜ x * y < 2 ^ 64 ⌝ }
+    ensures { λ r. ⌜ r ≡ cond (eqb d 0) 0 (x * y / d) ⌝ }
+{
+    if d == 0 {
+        return 0;
+    }
+    x * y / d
 }
 
 // A number, or 0 if it is negative.
@@ -114,12 +127,7 @@ pub fn portion(whole: u64, numerator: Kilowatts, denominator: Kilowatts) -> u64
     requires { ⌜ numerator .0 ≤ 2 ^ 40 ⌝ }
     ensures { λ r. ⌜ r ≡ portionOf (record { numerator = numerator .0; denominator = denominator .0 }) whole ⌝ }
 {
-    let n = numerator.0;
-    let d = denominator.0;
-    if d == 0 {
-        return 0;
-    }
-    lesser(whole * n / d, whole)
+    lesser(quotient(whole, numerator.0, denominator.0), whole)
 }
 
 // Expected, by the kind word.
@@ -315,11 +323,5 @@ pub fn share(cents: Cents, total: Kilowatts, kw: Kilowatts) -> Cents
     requires { ⌜ kw .0 ≤ 8000000 ⌝ }
     ensures { λ r. ⌜ r .0 ≡ shareOf (cents .0) (total .0) (kw .0) ⌝ }
 {
-    let whole = total.0;
-    if whole == 0 {
-        return Cents(0);
-    }
-    let weight = kw.0;
-    let pool = cents.0;
-    Cents(weight * pool / whole)
+    Cents(quotient(kw.0, cents.0, total.0))
 }

@@ -1,4 +1,4 @@
--- `assessment::rules::reduction` meets its contract. What the row used above its actual.
+-- `assessment::rules::reduction` meets its contract. The actual less the committed kW, where positive.
 use Prim.Native.Nat.{_-_}
 use mathlib.Core.Path.{ap₂, _∙_}
 use native.Mathlib.Omega.{arith}
