@@ -1,8 +1,5 @@
 // What a row's curve says at its LMP: the scheduled kW, and whether a PRD row is considered.
 
-use crate::rules::above as excess;
-use crate::rules::greater;
-use crate::rules::lesser;
 use crate::units::Kilowatts;
 use reading::interval::COMMITTED;
 use reading::interval::KIND;
@@ -97,7 +94,7 @@ fn along(base: Kilowatts, part: u64, rise: Kilowatts, whole: u64) -> Kilowatts
     ensures { λ r. ⌜ r .0 ≡ base .0 + part * rise .0 / whole ⌝ }
     ensures { λ r. ⌜ r .0 < 2 ^ 33 ⌝ }
 {
-    Kilowatts(base.0 + part * rise.0 / whole)
+    base.plus(Kilowatts(part * rise.0 / whole))
 }
 
 // On from point i, the last one reached, towards the next in proportion to price.
@@ -112,7 +109,7 @@ fn towards(points: &[u8], i: usize, lmp: i64) -> Kilowatts
     let low = price(points, i);
     let high = price(points, i + 1);
     let from = kw(points, i);
-    let more = Kilowatts(excess(kw(points, i + 1).0, from.0));
+    let more = kw(points, i + 1).less(from);
     along(from, gap(lmp, low), more, gap(high, low))
 }
 
@@ -176,8 +173,7 @@ pub fn scheduled(row: &[u8], points: &[u8]) -> Kilowatts
     if above(points, n - 1, lmp) {
         return most;
     }
-    let along = on_curve(points, n, lmp);
-    Kilowatts(lesser(greater(along.0, least.0), most.0))
+    on_curve(points, n, lmp).greater(least).lesser(most)
 }
 
 // Considered: every row of a kind; of PRD rows only one whose last point at or below the LMP is above 0 kW.

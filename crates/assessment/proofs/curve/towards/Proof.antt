@@ -63,8 +63,8 @@ add-kw c = search needs
 kw-requires-2 : tie.Need-kw-requires-2
 kw-requires-2 c κs = search needs
 
-above-requires : tie.Need-above-requires
-above-requires c κs = search needs
+less-requires : tie.Need-less-requires
+less-requires c κs = search needs
 
 gap-requires : tie.Need-gap-requires
 gap-requires c κs =
@@ -101,7 +101,7 @@ towards-spec =
     kw-requires
     add-kw
     kw-requires-2
-    above-requires
+    less-requires
     gap-requires
     gap-requires-2
     along-requires
