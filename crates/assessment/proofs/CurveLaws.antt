@@ -11,12 +11,11 @@ use lib.Signed.{leZ, ltZ}
 use Rattle.words.specs.Words.{numberAt, word32, signed, entries}
 use Rattle.words.proofs.Words.{length-entries}
 use Rattle.words.proofs.Access.{numberAt-drop}
-use Rattle.reading.specs.Interval.{Point, Row, Kind, noKind, kindOf, pointOf}
+use Rattle.reading.specs.Interval.{Point, Row, Kind, kindOf, pointOf}
 use Rattle.reading.proofs.Tables.{table-cons}
 use Rattle.assessment.specs.Assessment.{orElse, fromLastReached, alongCurve, lastPrice, minimumOnline, scheduledBy, firstKw, consideredAs, considered}
-use Rattle.assessment.proofs.KindLaws.{kind-none}
 
--- the words of point i
+-- the first word of point i is its price
 pub point-price : (b : List ℕ) (i : ℕ) → signed (word32 b (2 * i + 0)) ≡ pointOf (drop (8 * i) b) .price
 unfolding word32 pointOf
 point-price b i =
@@ -34,14 +33,17 @@ point-kw b i =
 abbrev pub tableFrom : ℕ → ℕ → List ℕ → List Point
 tableFrom i n b = entries 8 pointOf n (drop (8 * i) b)
 
--- a table without its first points
-pub table-drop : (i n : ℕ) (b : List ℕ) → drop i (entries 8 pointOf (i + n) b) ≡ tableFrom i n b
+-- a table without its first entries
+table-drop : {A : Type 0} (size : ℕ) (read : List ℕ → A) (i n : ℕ) (b : List ℕ) → drop i (entries size read (i + n) b) ≡ entries size read n (drop (size * i) b)
 unfolding entries
-table-drop zero n b = let zero-n : 0 + n ≡ n = omega arith in rw zero-n
-table-drop (suc i) n b =
+table-drop size read zero n b =
+    let all : 0 + n ≡ n = omega arith in
+    let front : size * 0 ≡ 0 = omega arith in
+    rw (all, front)
+table-drop size read (suc i) n b =
     let count : suc i + n ≡ suc (i + n) = omega arith in
-    let next : 8 + 8 * i ≡ 8 * suc i = omega arith in
-    rw count (table-drop i n (drop 8 b) ∙ ap (entries 8 pointOf n) (drop-drop (8 * i) 8 b ∙ ap (λ k. drop k b) next))
+    let next : size + size * i ≡ size * suc i = omega arith in
+    rw count (table-drop size read i n (drop size b) ∙ ap (entries size read n) (drop-drop (size * i) size b ∙ ap (λ k. drop k b) next))
 
 -- one list is the end of another, from a place on
 pub record EndOf (xs ps : List Point) : Type 0 where
@@ -50,12 +52,12 @@ pub record EndOf (xs ps : List Point) : Type 0 where
   pub is : xs ≡ drop place ps
 
 module _ (lmp : ℤ) where
-  -- no point is reached after the first: it is the last one reached, or none is
+  -- no point is reached after the first, nor is the first: none is
   pub search-on : (p : Point) (ps : List Point) → fromLastReached lmp ps ≡ [] → leZ (p .price) lmp ≡ false → fromLastReached lmp (p ∷ ps) ≡ []
   unfolding fromLastReached orElse
   search-on p ps none e = rw (none, e)
 
-  -- the first is reached and none after it, so the curve from the last one reached on is all of it
+  -- the first is reached and none after it: the curve from the last one reached on is all of it
   pub search-here : (p : Point) (ps : List Point) → fromLastReached lmp ps ≡ [] → leZ (p .price) lmp ≡ true → fromLastReached lmp (p ∷ ps) ≡ p ∷ ps
   unfolding fromLastReached orElse
   search-here p ps none e = rw (none, e)
@@ -124,7 +126,7 @@ module _ (lmp : ℤ) where
         let ps = tableFrom (j + 1) (n - i) b in
         let count : n - j ≡ suc (n - i) = omega arith in
         let all : j + suc (n - i) ≡ n = omega arith in
-        let end : drop j (entries 8 pointOf n b) ≡ p ∷ ps = ap (λ k. drop j (entries 8 pointOf k b)) (sym all) ∙ table-drop j (suc (n - i)) b ∙ table-cons 8 pointOf (n - i) b j in
+        let end : drop j (entries 8 pointOf n b) ≡ p ∷ ps = ap (λ k. drop j (entries 8 pointOf k b)) (sym all) ∙ table-drop 8 pointOf j (suc (n - i)) b ∙ table-cons 8 pointOf (n - i) b j in
         let here = search-here p ps (ap (λ k. fromLastReached lmp (tableFrom k (n - i) b)) (sym before) ∙ none) e in
         let found = search-end j (entries 8 pointOf n b) p ps (ap (fromLastReached lmp) end ∙ here) in
         count ∙ ap suc (sym (length-entries 8 pointOf (n - i) (drop (8 * (j + 1)) b))) ∙ ap length (sym found)
@@ -146,9 +148,9 @@ module _ (lmp : ℤ) where
         let size = length-entries 8 pointOf n b in
         let all : n ≡ f .place + rest = omega (arith, left, f .count, size) in
         let from : f .place ≡ n - rest = omega arith in
-        f .is ∙ ap (λ k. drop (f .place) (entries 8 pointOf k b)) all ∙ table-drop (f .place) rest b ∙ ap (λ k. tableFrom k rest b) from
+        f .is ∙ ap (λ k. drop (f .place) (entries 8 pointOf k b)) all ∙ table-drop 8 pointOf (f .place) rest b ∙ ap (λ k. tableFrom k rest b) from
 
-    -- none; one and those after it; two and those after them
+    -- of no point left, none is found
     left-none : rest ≡ 0 → fromLastReached lmp (entries 8 pointOf n b) ≡ []
     unfolding entries
     left-none z = left-is ∙ ap (λ k. tableFrom (n - rest) k b) z
@@ -177,7 +179,7 @@ module _ (lmp : ℤ) where
         let qs = tableFrom (n - rest + 1 + 1) (rest - 2) b in
         none-reached q qs (found-reached (entries 8 pointOf n b) p (q ∷ qs) (left-two (rest - 2) m) .1)
 
-    -- what the curve says from there on
+    -- with none left, the curve says 0
     pub along-none : rest ≡ 0 → 0 ≡ alongCurve lmp (fromLastReached lmp (entries 8 pointOf n b))
     unfolding alongCurve
     along-none z = rw (left-none z)
@@ -193,7 +195,7 @@ module _ (lmp : ℤ) where
     unfolding alongCurve
     along-next h = let m : rest ≡ suc (suc (rest - 2)) = omega arith in ap (alongCurve lmp) (sym (left-two (rest - 2) m))
 
-    -- the kW of the last point reached
+    -- with none left, the last point reached has no kW
     pub kw-none : rest ≡ 0 → 0 ≡ firstKw (fromLastReached lmp (entries 8 pointOf n b))
     unfolding firstKw
     kw-none z = ap firstKw (sym (left-none z))
@@ -245,7 +247,3 @@ module _ (n : ℕ) (b : List ℕ) (r : Row) (some : 0 < n) where
 pub considered-as : (r : Row) (k : ℕ) (kind : Kind) → r .kind ≡ k → kindOf k ≡ kind → consideredAs kind r ≡ considered r
 unfolding considered
 considered-as r k kind e f = ap (λ t. consideredAs t r) (sym (ap kindOf e ∙ f))
-
--- a kind word that is none of 0 to 4
-pub no-kind : (k : ℕ) → (k ≡ 0 → ⊥) → (k ≡ 1 → ⊥) → (k ≡ 2 → ⊥) → (k ≡ 3 → ⊥) → (k ≡ 4 → ⊥) → kindOf k ≡ noKind
-no-kind k h0 h1 h2 h3 h4 = kind-none k (omega arith)

@@ -1,12 +1,29 @@
 -- The numbers between two points of a curve: the LMP is at or above the price of one and below that of the next, and a share of a rise is at most the rise.
 use Prim.Native.Nat.{ℕ, _*_, _/_, _≤_, _<_}
-use mathlib.Core.Bool.{true, false}
-use mathlib.Core.Path.{_≡_}
+use mathlib.Core.Bool.{Bool, true, false, not}
+use mathlib.Core.Path.{_≡_, refl}
 use native.Mathlib.Nat.{div-le-of-le-mul, mul-le-mul-right, mul-le-mul, le-of-lt}
 use native.Mathlib.Omega.{arith}
-use lib.IntN.{ℤ, natAbs, _-ℤ_}
-use lib.Signed.{leZ, mag}
+use borrow.Author.Tests.{leb-true, leb-false, lt-ltb, le-ltb}
+use lib.Dec.{leb, ltb}
+use lib.IntN.{ℤ, pos, negsuc, natAbs, _-ℤ_}
+use lib.Signed.{leZ, ltZ, mag}
 use Rattle.words.proofs.Ints.{natAbs-diff, gap-lt, gap-le, le-over, mag-between}
+
+-- a number is below another exactly where the other is not at or below it
+ltb-not-leb : (a b : ℕ) → ltb a b ≡ not (leb b a)
+ltb-not-leb a b = by (leb b a) refl
+  where
+    by : (t : Bool) → leb b a ≡ t → ltb a b ≡ not t
+    by true e = le-ltb a b (leb-true b a e)
+    by false e = lt-ltb a b (leb-false b a e)
+
+-- the same of signed numbers
+pub below-not-reached : (a b : ℤ) → ltZ a b ≡ not (leZ b a)
+below-not-reached (pos a) (pos b) = ltb-not-leb a b
+below-not-reached (pos a) (negsuc b) = refl
+below-not-reached (negsuc a) (pos b) = refl
+below-not-reached (negsuc a) (negsuc b) = ltb-not-leb b a
 
 -- a share of a rise is at most the rise
 pub share-le : {part whole : ℕ} (rise : ℕ) → part < whole → part * rise / whole ≤ rise

@@ -18,7 +18,7 @@ pub outage-points : (b p s : List ℕ) → outage (rowAt b p) ≡ outage (rowAt 
 unfolding outage outageAs rowAt
 outage-points b p s = each-kind (λ k. outageAs k (rowAt b p) ≡ outageAs k (rowAt b s)) refl refl refl refl refl refl (kindOf (word32 b 1))
 
--- a row that is not considered has nothing, another its figure
+-- a word of a row that is not considered is 0
 pub left-out : (r : Row) (x : ℕ) → considered r ≡ false → 0 ≡ ifConsidered r x
 unfolding ifConsidered
 left-out r x e = rw e

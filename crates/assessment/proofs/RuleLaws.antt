@@ -2,12 +2,12 @@
 use Prim.Native.Nat.{ℕ, _-_, _*_, _/_, _≤_, _<_, min}
 use mathlib.Core.Path.{_≡_, refl}
 use mathlib.Core.Logic.{_⊎_, inl, inr}
-use mathlib.Core.Bool.{true, false, cond, true≢false}
+use mathlib.Core.Bool.{Bool, true, false, cond, true≢false}
 use native.Mathlib.Nat.{mul-le-mul}
 use native.Mathlib.Decide.{decLe}
 use native.Mathlib.Omega.{arith}
 use lib.IntN.{ℤ, pos, negsuc, natAbs}
-use lib.Dec.{T}
+use lib.Dec.{T, eqb}
 use lib.Signed.{ltZ, nonNeg, mag}
 use borrow.Author.Tests.{eq-eqb, ne-eqb, ltb-true}
 use Rattle.reading.specs.Interval.{Header, Row, kindOf}
@@ -34,7 +34,6 @@ use Rattle.assessment.specs.Assessment.{
   economicRule,
   economicAs,
   economic,
-  share,
 }
 use Rattle.assessment.proofs.KindLaws.{kind-none, kind-reducing, kind-high, kind-supply, kind-other}
 
@@ -50,7 +49,7 @@ unfolding orZero
 not-negative (pos n) e = (tt, refl, omega arith)
 not-negative (negsuc n) e = absurd (true≢false e)
 
--- the net imports of a file that is not region-wide, and of one that is
+-- a file that is not region-wide adds no imports
 pub imports-left : (h : Header) → (h .regionWide ≡ 1 → ⊥) → importShare h ≡ 0
 unfolding importShare
 imports-left h e = rw (ne-eqb (h .regionWide) 1 e)
@@ -60,15 +59,14 @@ pub imports-counted : (h : Header) → h .regionWide ≡ 1 → importShare h ≡
 unfolding importShare
 imports-counted h e = rw (eq-eqb (h .regionWide) 1 e)
 
--- a ratio without a denominator, and one with
-pub no-denominator : (n d whole : ℕ) → d ≡ 0 → portion (record { numerator = n; denominator = d }) whole ≡ 0
+-- a portion is the quotient, 0 without a denominator, cut to the whole
+pub portion-cut : (n d whole : ℕ) → min (cond (eqb d 0) 0 (whole * n / d)) whole ≡ portion (record { numerator = n; denominator = d }) whole
 unfolding portion
-no-denominator n d whole e = rw (eq-eqb d 0 e)
-
--- with a denominator the part is multiplied, divided and rounded down once, and cut to the whole
-pub some-denominator : (n d whole : ℕ) → (d ≡ 0 → ⊥) → portion (record { numerator = n; denominator = d }) whole ≡ min (whole * n / d) whole
-unfolding portion
-some-denominator n d whole e = rw (ne-eqb d 0 e)
+portion-cut n d whole = by (eqb d 0)
+  where
+    by : (t : Bool) → min (cond t 0 (whole * n / d)) whole ≡ cond t 0 (min (whole * n / d) whole)
+    by true = omega arith
+    by false = refl
 
 -- Expected, by the kind word
 module _ (q : Ratio) (r : Row) where
@@ -99,7 +97,7 @@ module _ (r : Row) where
   unfolding outage outageAs
   outage-other h = kind-other (λ k. outageAs k r ≡ 0) refl refl refl refl (r .kind) h
 
-  -- Bonus, by the kind word
+  -- the bonus of kinds 0 and 4 is the actual, cut to the scheduled kW, above the expected kW
   pub bonus-supply : (e : ℕ) → (r .kind ≡ 0) ⊎ (r .kind ≡ 4) → bonus r e ≡ min (actual r) (scheduled r) - e
   unfolding bonus bonusActualAs
   bonus-supply e h = kind-supply (λ k. bonusActualAs k r - e ≡ min (actual r) (scheduled r) - e) refl refl (r .kind) h
@@ -114,7 +112,7 @@ module _ (r : Row) where
   unfolding bonus bonusActualAs
   bonus-none e h = rw (kind-none (r .kind) h) (omega arith)
 
-  -- Economic, by the kind word
+  -- the economic kW of kinds 0 and 4 go by the rule
   pub economic-supply : (e : ℕ) → (r .kind ≡ 0) ⊎ (r .kind ≡ 4) → economic r e ≡ economicRule r e
   unfolding economic economicAs
   economic-supply e h = kind-supply (λ k. economicAs k r e ≡ economicRule r e) refl refl (r .kind) h
@@ -127,16 +125,6 @@ module _ (r : Row) where
 -- a product of three bounded factors
 pub product-le : {a b c : ℕ} (x y z : ℕ) → a ≤ x → b ≤ y → c ≤ z → a * b * c ≤ x * y * z
 product-le x y z h k l = mul-le-mul (mul-le-mul h k) l
-
--- a share with no bonus at all, and one with some
-pub no-share : (cents total kw : ℕ) → total ≡ 0 → share cents total kw ≡ 0
-unfolding share
-no-share cents total kw e = rw (eq-eqb total 0 e)
-
--- with some bonus in total, a share is the bonus times the cents over the total, rounded down
-pub some-share : (cents total kw : ℕ) → (total ≡ 0 → ⊥) → share cents total kw ≡ kw * cents / total
-unfolding share
-some-share cents total kw e = rw (ne-eqb total 0 e)
 
 -- what a row adds to the numerator, by the kind word
 module _ (r : Row) where
@@ -174,7 +162,7 @@ module _ (r : Row) where
           let four-not : r .kind ≡ 4 → ⊥ = λ e. supply (inr e) in
           rw (kind-none (r .kind) (omega arith))
 
-  -- what a row adds to the denominator
+  -- kind 0 adds its committed kW to the denominator
   pub denominator-generation : r .kind ≡ 0 → denominatorShare r ≡ r .committed
   unfolding denominatorShareAs denominatorShare kindOf
   denominator-generation e = rw e

@@ -76,7 +76,7 @@ unfoldable pub firstKw : List Point → ℕ
 firstKw [] = 0
 firstKw (p ∷ ps) = p .kw
 
--- Considered: every row; of PRD rows only those whose last point at or below the LMP is above 0 kW
+-- Considered: every row of a kind; of PRD rows only those whose last point at or below the LMP is above 0 kW
 unfoldable pub consideredAs : Kind → Row → Bool
 consideredAs generation r = true
 consideredAs demand r = true

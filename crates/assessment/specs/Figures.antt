@@ -4,52 +4,13 @@ use mathlib.Core.List.{List, [], _∷_}
 use lib.IntN.{ℤ, pos, negsuc}
 use Rattle.words.specs.Figures.{Figure, _gives_, AllAsStated, test}
 use Rattle.reading.specs.Block.{Terms}
-use Rattle.reading.specs.Interval.{Header, Point, Row}
+use Rattle.reading.specs.Interval.{Point, Row}
+use Rattle.reading.specs.Figures.{headerWith, rowWith, at}
 use Rattle.assessment.specs.Assessment.{Ratio, RowFigures, Account, ChargedRow, Assessed, actual, fromLastReached, firstKw, scheduled, considered, expected, bonus, numeratorShare, numerator, denominator, ratioOf, printedRatio, outage, economic, rowFigures, raised, limit, fullCharge, charge, chargedRow, pool, credit, credits, carriedOn}
-
--- a point
-abbrev pub at : ℤ → ℕ → Point
-at price kw = record { price = price; kw = kw }
 
 -- a row of id 1, without adjustment: kind, committed, owned, metered, planned, forced, maximum, minimum, online, LMP and curve
 abbrev pub row : ℕ → ℕ → ℕ → ℤ → ℕ → ℕ → ℕ → ℕ → ℕ → ℤ → List Point → Row
-row kind committed owned metered planned forced maximum minimum online lmp curve = record {
-  id = 1;
-  kind = kind;
-  committed = committed;
-  owned = owned;
-  metered = metered;
-  adjustment = pos 0;
-  planned = planned;
-  forced = forced;
-  maximum = maximum;
-  minimum = minimum;
-  online = online;
-  lmp = lmp;
-  firstPoint = 0;
-  pointCount = 0;
-  curve = curve;
-}
-
--- a row with an adjustment
-abbrev pub adjusted : ℤ → Row → Row
-adjusted kw r = record {
-  id = r .id;
-  kind = r .kind;
-  committed = r .committed;
-  owned = r .owned;
-  metered = r .metered;
-  adjustment = kw;
-  planned = r .planned;
-  forced = r .forced;
-  maximum = r .maximum;
-  minimum = r .minimum;
-  online = r .online;
-  lmp = r .lmp;
-  firstPoint = r .firstPoint;
-  pointCount = r .pointCount;
-  curve = r .curve;
-}
+row kind committed owned metered planned forced maximum minimum online lmp curve = rowWith kind committed owned metered (pos 0) planned forced maximum minimum online lmp 0 curve
 
 -- curve A
 unfoldable pub curveA : List Point
@@ -120,7 +81,7 @@ row11 = row 0 100000 110000 (pos 60000) 10000 0 110000 20000 1 (pos 3000) curveA
 
 -- row 12
 unfoldable pub row12 : Row
-row12 = adjusted (pos 5000) (row 0 50000 60000 (pos 20000) 0 35000 25000 10000 1 (pos 6001) (at (pos 1000) 10000 ∷ at (pos 6000) 50000 ∷ []))
+row12 = rowWith 0 50000 60000 (pos 20000) (pos 5000) 0 35000 25000 10000 1 (pos 6001) 0 (at (pos 1000) 10000 ∷ at (pos 6000) 50000 ∷ [])
 
 -- row 13
 unfoldable pub row13 : Row
@@ -130,23 +91,9 @@ row13 = row 4 0 40000 (pos 35000) 0 0 40000 0 1 (pos 3000) (at (pos 0) 0 ∷ at 
 unfoldable pub row14 : Row
 row14 = row 1 5000 0 (pos 15001) 0 0 0 0 0 (pos 0) []
 
--- a header with net imports, region-wide or not
-unfoldable pub importing : ℕ → ℤ → Header
-importing regionWide imports = record {
-  format = 1;
-  interval = 1000;
-  terms = terms 30000;
-  regionWide = regionWide;
-  imports = imports;
-  rowCount = 4;
-  rowsOffset = 40;
-  pointCount = 0;
-  pointsOffset = 40;
-}
-
--- the four of them
-unfoldable pub listed : List Row
-listed = row11 ∷ row12 ∷ row13 ∷ row14 ∷ []
+-- the rows of the listing
+unfoldable pub listingRows : List Row
+listingRows = row11 ∷ row12 ∷ row13 ∷ row14 ∷ []
 
 -- a row on curve A, scheduled to 60000 kW: kind, owned, metered, planned, forced and maximum
 abbrev pub at60 : ℕ → ℕ → ℤ → ℕ → ℕ → ℕ → Row
@@ -180,8 +127,8 @@ denied metered = chargedRow (terms 30000) (account 3000 0 ∷ []) (over 1 1) (ro
 unfoldable pub workedFigures : List Figure
 workedFigures =
     -- actual: a sum of signed numbers, and 0 if that is negative
-    actual (adjusted (pos 5000) (row 0 0 0 (negsuc 2999) 0 0 0 0 0 (pos 0) [])) gives 2000
-    ∷ actual (adjusted (pos 2) (row 0 0 0 (negsuc 4) 0 0 0 0 0 (pos 0) [])) gives 0
+    actual (rowWith 0 0 0 (negsuc 2999) (pos 5000) 0 0 0 0 0 (pos 0) 0 []) gives 2000
+    ∷ actual (rowWith 0 0 0 (negsuc 4) (pos 2) 0 0 0 0 0 (pos 0) 0 []) gives 0
     ∷ actual row12 gives 25000
     -- scheduled: with no points the committed kW, neither raised nor cut
     ∷ scheduled (row 0 7 0 (pos 0) 0 0 5 0 1 (pos 0) []) gives 7
@@ -225,10 +172,10 @@ workedFigures =
     -- a PRD row not considered adds none
     ∷ numeratorShare (row 3 3000 0 (pos 5000) 0 0 0 0 0 (pos 1999) (at (pos 2000) 1 ∷ [])) gives 0
     -- imports count only when region-wide and positive
-    ∷ printedRatio (ratioOf (importing 0 (pos 19999)) listed) gives 866673
-    ∷ printedRatio (ratioOf (importing 1 (pos 19999)) listed) gives 1000000
-    ∷ numerator (importing 1 (pos 9)) listed gives 130010
-    ∷ numerator (importing 1 (negsuc 9)) listed gives 130001
+    ∷ printedRatio (ratioOf (headerWith 1000 365 0 (pos 19999)) listingRows) gives 866673
+    ∷ printedRatio (ratioOf (headerWith 1000 365 1 (pos 19999)) listingRows) gives 1000000
+    ∷ numerator (headerWith 1000 365 1 (pos 9)) listingRows gives 130010
+    ∷ numerator (headerWith 1000 365 1 (negsuc 9)) listingRows gives 130001
     -- the denominator takes kind 0 alone
     ∷ denominator eachKind gives 1
     -- the ratio is not rounded before it is multiplied (3466692 by way of millionths)

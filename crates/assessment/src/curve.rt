@@ -1,6 +1,5 @@
 // What a row's curve says at its LMP: the scheduled kW, and whether a PRD row is considered.
 
-use crate::rules::above as excess;
 use crate::units::Kilowatts;
 use reading::interval::COMMITTED;
 use reading::interval::KIND;
@@ -16,7 +15,7 @@ use reading::interval::word;
 ghost use mathlib.Core.Path.{_≡_};
 ghost use mathlib.Core.Bool.{true, false};
 ghost use mathlib.Core.List.{_∷_, []};
-ghost use Prim.Native.Nat.{_+_, _-_, _*_, _/_, _≤_, _<_, _^_, min, max};
+ghost use Prim.Native.Nat.{_+_, _-_, _*_, _/_, _≤_, _<_, _^_};
 ghost use lib.ListN.{length, drop};
 ghost use lib.IntN.{natAbs, _-ℤ_};
 ghost use lib.Signed.{leZ, ltZ, mag};
@@ -50,14 +49,6 @@ fn reached(points: &[u8], i: usize, lmp: i64) -> bool
     ensures { λ r. ⌜ r ≡ leZ (pointOf (drop (pointBytes * i) (now (points .entry))) .price) lmp ⌝ }
 {
     price(points, i) <= lmp
-}
-
-// Whether the LMP is below the price of point i.
-fn below(points: &[u8], i: usize, lmp: i64) -> bool
-    requires { ⌜ 8 * i + 8 ≤ length (now points) ⌝ }
-    ensures { λ r. ⌜ r ≡ ltZ lmp (pointOf (drop (pointBytes * i) (now (points .entry))) .price) ⌝ }
-{
-    lmp < price(points, i)
 }
 
 // Whether the LMP is above the price of point i.
@@ -103,7 +94,7 @@ fn along(base: Kilowatts, part: u64, rise: Kilowatts, whole: u64) -> Kilowatts
     ensures { λ r. ⌜ r .0 ≡ base .0 + part * rise .0 / whole ⌝ }
     ensures { λ r. ⌜ r .0 < 2 ^ 33 ⌝ }
 {
-    Kilowatts(base.0 + part * rise.0 / whole)
+    base.plus(Kilowatts(part * rise.0 / whole))
 }
 
 // On from point i, the last one reached, towards the next in proportion to price.
@@ -118,7 +109,7 @@ fn towards(points: &[u8], i: usize, lmp: i64) -> Kilowatts
     let low = price(points, i);
     let high = price(points, i + 1);
     let from = kw(points, i);
-    let more = Kilowatts(excess(kw(points, i + 1).0, from.0));
+    let more = kw(points, i + 1).less(from);
     along(from, gap(lmp, low), more, gap(high, low))
 }
 
@@ -162,22 +153,6 @@ fn minimum_online(row: &[u8]) -> Kilowatts
     Kilowatts(0)
 }
 
-// Raised to a least and cut to a most.
-fn limited(x: Kilowatts, least: Kilowatts, most: Kilowatts) -> Kilowatts
-    ensures { λ r. ⌜ r .0 ≡ min (max (x .0) (least .0)) (most .0) ⌝ }
-{
-    if most.0 <= x.0 {
-        return most;
-    }
-    if most.0 <= least.0 {
-        return most;
-    }
-    if x.0 <= least.0 {
-        return least;
-    }
-    x
-}
-
 // Scheduled, of a row and the part of its file that starts at its first point.
 pub fn scheduled(row: &[u8], points: &[u8]) -> Kilowatts
     requires { ⌜ 56 ≤ length (now row) ⌝ }
@@ -191,14 +166,14 @@ pub fn scheduled(row: &[u8], points: &[u8]) -> Kilowatts
     }
     let lmp = signed_word(row, LMP);
     let least = minimum_online(row);
-    if below(points, 0, lmp) {
+    if !reached(points, 0, lmp) {
         return least;
     }
     let most = Kilowatts(word(row, MAXIMUM));
     if above(points, n - 1, lmp) {
         return most;
     }
-    limited(on_curve(points, n, lmp), least, most)
+    on_curve(points, n, lmp).greater(least).lesser(most)
 }
 
 // Considered: every row of a kind; of PRD rows only one whose last point at or below the LMP is above 0 kW.

@@ -3,6 +3,7 @@
 use crate::curve::considered;
 use crate::units::Cents;
 use crate::units::Kilowatts;
+use crate::units::lesser;
 use reading::interval::ADJUSTMENT;
 use reading::interval::COMMITTED;
 use reading::interval::FORCED;
@@ -16,9 +17,11 @@ use reading::interval::REGION_WIDE;
 use reading::interval::signed_word;
 use reading::interval::word;
 ghost use mathlib.Core.Path.{_≡_};
+ghost use mathlib.Core.Bool.{cond};
 ghost use mathlib.Core.List.{[]};
-ghost use Prim.Native.Nat.{_+_, _-_, _*_, _≤_, _<_, _^_, min, max};
+ghost use Prim.Native.Nat.{_+_, _-_, _*_, _/_, _≤_, _<_, _^_};
 ghost use lib.ListN.{length};
+ghost use lib.Dec.{eqb};
 ghost use lib.IntN.{_+ℤ_};
 ghost use lib.Signed.{mag};
 ghost use Rattle.words.specs.Words.{word32};
@@ -49,32 +52,15 @@ const LIMIT_DIVISOR: u64 = 2000;
 
 const CHARGE_DIVISOR: u64 = 360000;
 
-fn lesser(a: u64, b: u64) -> u64
-    ensures { λ r. ⌜ r ≡ min a b ⌝ }
+// A product over a divisor, rounded down once, and 0 without a divisor.
+fn quotient(x: u64, y: u64, d: u64) -> u64
+    requires { ⌜ x * y < 2 ^ 64 ⌝ }
+    ensures { λ r. ⌜ r ≡ cond (eqb d 0) 0 (x * y / d) ⌝ }
 {
-    if a < b {
-        return a;
-    }
-    b
-}
-
-fn greater(a: u64, b: u64) -> u64
-    ensures { λ r. ⌜ r ≡ max a b ⌝ }
-{
-    if a < b {
-        return b;
-    }
-    a
-}
-
-// What a has above b, 0 if nothing.
-pub fn above(a: u64, b: u64) -> u64
-    ensures { λ r. ⌜ r ≡ a - b ⌝ }
-{
-    if a < b {
+    if d == 0 {
         return 0;
     }
-    a - b
+    x * y / d
 }
 
 // A number, or 0 if it is negative.
@@ -114,12 +100,7 @@ pub fn portion(whole: u64, numerator: Kilowatts, denominator: Kilowatts) -> u64
     requires { ⌜ numerator .0 ≤ 2 ^ 40 ⌝ }
     ensures { λ r. ⌜ r ≡ portionOf (record { numerator = numerator .0; denominator = denominator .0 }) whole ⌝ }
 {
-    let n = numerator.0;
-    let d = denominator.0;
-    if d == 0 {
-        return 0;
-    }
-    lesser(whole * n / d, whole)
+    lesser(quotient(whole, numerator.0, denominator.0), whole)
 }
 
 // Expected, by the kind word.
@@ -152,8 +133,8 @@ pub fn bonus(
 {
     let kind = word(row, KIND);
     match kind {
-        0 | 4 => Kilowatts(above(lesser(act.0, sched.0), expect.0)),
-        1 | 2 | 3 => Kilowatts(above(act.0, expect.0)),
+        0 | 4 => act.lesser(sched).less(expect),
+        1 | 2 | 3 => act.less(expect),
         _ => Kilowatts(0),
     }
 }
@@ -164,8 +145,7 @@ fn reduction(row: &[u8]) -> Kilowatts
     ensures { λ r. ⌜ r .0 ≡ actualOf (rowAt (now (row .entry)) []) - rowAt (now (row .entry)) [] .committed ⌝ }
     ensures { λ r. ⌜ r .0 < 2 ^ 33 ⌝ }
 {
-    let given = actual(row);
-    Kilowatts(above(given.0, word(row, COMMITTED)))
+    actual(row).less(Kilowatts(word(row, COMMITTED)))
 }
 
 // What a row adds to the numerator, by the kind word.
@@ -243,9 +223,10 @@ pub fn economic(
     let kind = word(row, KIND);
     match kind {
         0 | 4 => {
-            let able = above(word(row, OWNED), word(row, PLANNED) + word(row, FORCED));
-            let most = lesser(word(row, MAXIMUM), lesser(expect.0, able));
-            Kilowatts(above(most, greater(sched.0, act.0)))
+            let owned = Kilowatts(word(row, OWNED));
+            let out = Kilowatts(word(row, PLANNED)).plus(Kilowatts(word(row, FORCED)));
+            let most = Kilowatts(word(row, MAXIMUM)).lesser(expect.lesser(owned.less(out)));
+            most.less(sched.greater(act))
         }
         _ => Kilowatts(0),
     }
@@ -265,7 +246,7 @@ pub fn shortfall(
     requires { ⌜ econ .0 ≡ economicOf (rowAt (now row) (now points)) (expect .0) ⌝ }
     ensures { λ r. ⌜ r .0 ≡ shortfallOf (rowAt (now (row .entry)) (now (points .entry))) (expect .0) ⌝ }
 {
-    Kilowatts(above(above(above(expect.0, act.0), out.0), econ.0))
+    expect.less(act).less(out).less(econ)
 }
 
 // The largest commitment of an account that a row has raised to its committed kW, if that is larger.
@@ -273,7 +254,7 @@ pub fn raised(row: &[u8], largest: Kilowatts) -> Kilowatts
     requires { ⌜ 56 ≤ length (now row) ⌝ }
     ensures { λ r. ⌜ r .0 ≡ raisedOf (rowAt (now (row .entry)) []) (record { id = 0; largest = largest .0; charged = 0; credited = 0 }) .largest ⌝ }
 {
-    Kilowatts(greater(largest.0, word(row, COMMITTED)))
+    largest.greater(Kilowatts(word(row, COMMITTED)))
 }
 
 // The limit of a largest commitment, rounded down.
@@ -306,7 +287,7 @@ pub fn charge(cone: u64, days: u64, largest: Kilowatts, charged: Cents, short: K
 {
     let full = full_charge(cone, days, short);
     let most = limit(cone, days, largest);
-    Cents(lesser(full.0, above(most.0, charged.0)))
+    full.lesser(most.less(charged))
 }
 
 // A share of the pool by bonus, multiplied before it is divided, and rounded down; nothing with no bonus.
@@ -315,11 +296,5 @@ pub fn share(cents: Cents, total: Kilowatts, kw: Kilowatts) -> Cents
     requires { ⌜ kw .0 ≤ 8000000 ⌝ }
     ensures { λ r. ⌜ r .0 ≡ shareOf (cents .0) (total .0) (kw .0) ⌝ }
 {
-    let whole = total.0;
-    if whole == 0 {
-        return Cents(0);
-    }
-    let weight = kw.0;
-    let pool = cents.0;
-    Cents(weight * pool / whole)
+    Cents(quotient(kw.0, cents.0, total.0))
 }

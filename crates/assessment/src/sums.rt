@@ -34,21 +34,21 @@ pub fn ratio_sides(file: &[u8]) -> Ratio
 {
     let rows = word(file, ROWS) as usize;
     let first = word(file, ROWS_OFFSET) as usize;
-    let mut numerator = 0;
-    let mut denominator = 0;
+    let mut numerator = Kilowatts(0);
+    let mut denominator = Kilowatts(0);
     let mut i = 0;
     while i < rows {
         let row = first + ROW_BYTES * i;
         let curve = curve_at(file, &file[row..]);
         let more = numerator_share(&file[row..], &file[curve..]);
         let less = denominator_share(&file[row..]);
-        numerator += more.0;
-        denominator += less.0;
+        numerator = numerator.plus(more);
+        denominator = denominator.plus(less);
         i += 1;
     }
     let imports = import_share(file);
     Ratio {
-        numerator: Kilowatts(numerator + imports.0),
-        denominator: Kilowatts(denominator),
+        numerator: numerator.plus(imports),
+        denominator: denominator,
     }
 }

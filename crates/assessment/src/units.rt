@@ -1,5 +1,79 @@
-// Kilowatts and cents, which are never added or compared.
+// Kilowatts and cents, which are never added or compared: each has sums, differences and comparisons of its own.
+
+ghost use mathlib.Core.Path.{_≡_};
+ghost use Prim.Native.Nat.{_+_, _-_, _<_, _^_, min, max};
 
 pub struct Kilowatts(pub u64);
 
 pub struct Cents(pub u64);
+
+pub fn lesser(a: u64, b: u64) -> u64
+    ensures { λ r. ⌜ r ≡ min a b ⌝ }
+{
+    if a < b {
+        return a;
+    }
+    b
+}
+
+fn greater(a: u64, b: u64) -> u64
+    ensures { λ r. ⌜ r ≡ max a b ⌝ }
+{
+    if a < b {
+        return b;
+    }
+    a
+}
+
+// What a has above b, 0 if nothing.
+fn above(a: u64, b: u64) -> u64
+    ensures { λ r. ⌜ r ≡ a - b ⌝ }
+{
+    if a < b {
+        return 0;
+    }
+    a - b
+}
+
+impl Kilowatts {
+    pub fn lesser(self, other: Kilowatts) -> Kilowatts
+        ensures { λ r. ⌜ r .0 ≡ min (self .0) (other .0) ⌝ }
+    {
+        Kilowatts(lesser(self.0, other.0))
+    }
+
+    pub fn greater(self, other: Kilowatts) -> Kilowatts
+        ensures { λ r. ⌜ r .0 ≡ max (self .0) (other .0) ⌝ }
+    {
+        Kilowatts(greater(self.0, other.0))
+    }
+
+    // What these have above others, 0 if nothing.
+    pub fn less(self, other: Kilowatts) -> Kilowatts
+        ensures { λ r. ⌜ r .0 ≡ self .0 - other .0 ⌝ }
+    {
+        Kilowatts(above(self.0, other.0))
+    }
+
+    pub fn plus(self, other: Kilowatts) -> Kilowatts
+        requires { ⌜ self .0 + other .0 < 2 ^ 64 ⌝ }
+        ensures { λ r. ⌜ r .0 ≡ self .0 + other .0 ⌝ }
+    {
+        Kilowatts(self.0 + other.0)
+    }
+}
+
+impl Cents {
+    pub fn lesser(self, other: Cents) -> Cents
+        ensures { λ r. ⌜ r .0 ≡ min (self .0) (other .0) ⌝ }
+    {
+        Cents(lesser(self.0, other.0))
+    }
+
+    // What these have above others, 0 if nothing.
+    pub fn less(self, other: Cents) -> Cents
+        ensures { λ r. ⌜ r .0 ≡ self .0 - other .0 ⌝ }
+    {
+        Cents(above(self.0, other.0))
+    }
+}

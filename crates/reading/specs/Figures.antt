@@ -70,8 +70,8 @@ pub record LayoutFigures : Type 0 where
       ∷ []
 
 -- a header of an interval in a year of so many days, region-wide, and net imports
-abbrev pub heading : ℕ → ℕ → ℕ → ℤ → Header
-heading interval days regionWide imports = record {
+abbrev pub headerWith : ℕ → ℕ → ℕ → ℤ → Header
+headerWith interval days regionWide imports = record {
   format = 1;
   interval = interval;
   terms = record { netCone = 1; days = days };
@@ -149,13 +149,13 @@ fileFigures =
     ∷ test (notAFile (tables 49112 0 0 0 0)) gives 0
     ∷ test (notAFile (tables 49113 0 0 0 0)) gives 1
     ∷ test (notAFile (replicate 40 0)) gives 1
-    ∷ test (headerOutside (heading 105119 365 1 (pos 40000000))) gives 0
-    ∷ test (headerOutside (heading 105120 365 0 (pos 0))) gives 1
-    ∷ test (headerOutside (heading 105407 366 0 (negsuc 39999999))) gives 0
-    ∷ test (headerOutside (heading 105408 366 0 (pos 0))) gives 1
-    ∷ test (headerOutside (heading 0 365 2 (pos 0))) gives 1
-    ∷ test (headerOutside (heading 0 365 0 (pos 40000001))) gives 1
-    ∷ test (headerOutside (heading 0 365 0 (negsuc 40000000))) gives 1
+    ∷ test (headerOutside (headerWith 105119 365 1 (pos 40000000))) gives 0
+    ∷ test (headerOutside (headerWith 105120 365 0 (pos 0))) gives 1
+    ∷ test (headerOutside (headerWith 105407 366 0 (negsuc 39999999))) gives 0
+    ∷ test (headerOutside (headerWith 105408 366 0 (pos 0))) gives 1
+    ∷ test (headerOutside (headerWith 0 365 2 (pos 0))) gives 1
+    ∷ test (headerOutside (headerWith 0 365 0 (pos 40000001))) gives 1
+    ∷ test (headerOutside (headerWith 0 365 0 (negsuc 40000000))) gives 1
     ∷ test (tablesMisplaced (tables 64 1 40 1 96)) gives 0
     ∷ test (tablesMisplaced (tables 64 1 48 1 40)) gives 0
     ∷ test (tablesMisplaced (tables 64 0 40 1 96)) gives 1

@@ -1,5 +1,4 @@
 -- `assessment::curve::along` meets its contract. The product of two numbers of 32 bits fits, and a share of the rise is at most the rise.
-use mathlib.Core.Path.{refl}
 use native.Mathlib.Omega.{arith}
 use borrow.Author.Needs.{needs}
 use Rattle.assessment.proofs.CurveNumbers.{share-le, product-le}
@@ -12,11 +11,11 @@ mul-t5 c = let a = c .before .args in omega (arith, product-le (a .part) (a .ris
 div-t6 : tie.Need-div-t6
 div-t6 c = search needs
 
-add-t7 : tie.Need-add-t7
-add-t7 c = let start = c .before .before in omega (arith, share-le (start .args .rise .0) (start .pre .1 .0))
+plus-requires : tie.Need-plus-requires
+plus-requires c κs = let start = c .before in omega (arith, share-le (start .args .rise .0) (start .pre .1 .0))
 
 returns : tie.Need-returns
-returns c = let start = c .before .before in (refl, omega (arith, share-le (start .args .rise .0) (start .pre .1 .0)))
+returns c = let start = c .before .before in (c .plus .ensures, omega (arith, c .plus .ensures, share-le (start .args .rise .0) (start .pre .1 .0)))
 
 pub along-spec : {M : Type 1} → statement M
-along-spec = tie.close (tie.spec mul-t5 div-t6 add-t7 returns)
+along-spec = tie.close (tie.spec mul-t5 div-t6 plus-requires returns)

@@ -10,18 +10,21 @@ use Rattle.words.specs.Words.{entries}
 use Rattle.words.proofs.Ints.{plain}
 use Rattle.reading.specs.Interval.{Row, rowAt, pointOf, kindOf, generation, demand, efficiency, responsive, energyOnly, noKind}
 use Rattle.assessment.specs.Assessment.{fromLastReached, firstKw, consideredAs}
-use Rattle.assessment.proofs.CurveLaws.{considered-as, no-kind}
+use Rattle.assessment.proofs.KindLaws.{kind-none}
+use Rattle.assessment.proofs.CurveLaws.{considered-as}
 use Rattle.assessment.proofs.curve.considered.Statement.{statement}
 use Rattle.assessment.proofs.curve.considered.Tie as tie
 
--- the row, and its words once they are read
+-- the row, once its number of points is read
 abbrev row : tie.After-word → Row
 row c = let a = c .before .before .before .args in rowAt (a .row .now) (a .points .now)
 
+-- the LMP, read back from its bits
 lmp-is : (c : tie.After-signed-word) → toZ w64 (ofZ w64 (c .signed-word .result)) ≡ row (c .before) .lmp
 unfolding rowAt
 lmp-is c = plain (c .signed-word .result) (omega (arith, c .signed-word .ensures .1)) ∙ c .signed-word .ensures .0
 
+-- the kind word
 kind-is : (c : tie.After-word2) → row (c .before .before) .kind ≡ c .word2 .result
 unfolding rowAt
 kind-is c = sym (c .word2 .ensures .0)
@@ -70,7 +73,7 @@ unfolding consideredAs
 returns-6 c =
     let k = c .before .word2 .result in
     let n = c .match .rest in
-    considered-as (row (c .before .before .before)) k noKind (kind-is (c .before)) (no-kind k (n .0 .0 .0 .0 .1) (n .0 .0 .0 .1) (n .0 .0 .1) (n .0 .1) (n .1))
+    considered-as (row (c .before .before .before)) k noKind (kind-is (c .before)) (kind-none k (omega (arith, n .0 .0 .0 .0 .1, n .0 .0 .0 .1, n .0 .0 .1, n .0 .1, n .1)))
 
 pub considered-spec : {M : Type 1} → statement M
 considered-spec =

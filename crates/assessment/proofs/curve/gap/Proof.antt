@@ -9,6 +9,7 @@ use Rattle.words.proofs.Ints.{diff, gapOf, gap-le, natAbs-diff}
 use Rattle.assessment.proofs.curve.gap.Statement.{statement}
 use Rattle.assessment.proofs.curve.gap.Tie as tie
 
+-- the difference fits a signed word of 64 bits
 small : (c : tie.Start) → SFits w64 (pos (gapOf (c .args .a) (c .args .b)))
 small c = record { sfits = omega (arith, gap-le (c .args .a) (c .args .b)) }
 

@@ -12,9 +12,11 @@ use Rattle.assessment.proofs.CurveLaws.{left-le, kw-none, kw-some}
 use Rattle.assessment.proofs.curve.last_kw.Statement.{statement}
 use Rattle.assessment.proofs.curve.last_kw.Tie as tie
 
+-- so many points are left at the LMP itself
 rest-is : (c : tie.After-points-left) → let a = c .before .before .args in c .points-left .result ≡ length (fromLastReached (a .lmp) (entries 8 pointOf (a .n) (a .points .now)))
 rest-is c = let s = c .before .before in rw (plain (s .args .lmp) (s .fits .lmp .sfits)) at (c .points-left .ensures)
 
+-- no more than there are
 rest-le : (c : tie.After-points-left) → c .points-left .result ≤ c .before .before .args .n
 rest-le c = let a = c .before .before .args in left-le (a .lmp) (a .n) (a .points .now) (c .points-left .result) (rest-is c)
 

@@ -12,12 +12,15 @@ use Rattle.assessment.proofs.CurveLaws.{left-le, left-reached, left-pas
 use Rattle.assessment.proofs.curve.on_curve.Statement.{statement}
 use Rattle.assessment.proofs.curve.on_curve.Tie as tie
 
+-- so many points are left at the LMP itself
 rest-is : (c : tie.After-points-left) → let a = c .before .before .args in c .points-left .result ≡ length (fromLastReached (a .lmp) (entries 8 pointOf (a .n) (a .points .now)))
 rest-is c = let s = c .before .before in rw (plain (s .args .lmp) (s .fits .lmp .sfits)) at (c .points-left .ensures)
 
+-- no more than there are
 rest-le : (c : tie.After-points-left) → c .points-left .result ≤ c .before .before .args .n
 rest-le c = let a = c .before .before .args in left-le (a .lmp) (a .n) (a .points .now) (c .points-left .result) (rest-is c)
 
+-- past both tests, at least two are left
 two-left : (c : tie.Else2) → 1 < c .before .before .points-left .result
 two-left c = omega (arith, c .before .if1 .left, c .if2 .left)
 

@@ -13,28 +13,35 @@ use Rattle.assessment.proofs.CurveNumbers.{part-fits, whole-fits, part-
 use Rattle.assessment.proofs.curve.towards.Statement.{statement}
 use Rattle.assessment.proofs.curve.towards.Tie as tie
 
--- the LMP and the two prices, once both are read
+-- the LMP, once both prices are read
 abbrev l : tie.After-price2 → ℤ
 l c = c .before .before .before .args .lmp
 
+-- the price of point i
 abbrev p : tie.After-price2 → ℤ
 p c = c .before .price .result
 
+-- the price of the next
 abbrev q : tie.After-price2 → ℤ
 q c = c .price2 .result
 
+-- point i is reached
 reached : (c : tie.After-price2) → leZ (p c) (l c) ≡ true
 reached c = ap (λ (z : ℤ). leZ z (l c)) (c .before .price .ensures .0) ∙ c .before .before .before .pre .1 .0
 
+-- the next is priced above the LMP
 passed : (c : tie.After-price2) → leZ (q c) (l c) ≡ false
 passed c = ap (λ (z : ℤ). leZ z (l c)) (c .price2 .ensures .0) ∙ c .before .before .before .pre .1 .1
 
+-- the LMP, read back from its bits
 pl : (c : tie.After-price2) → toZ w64 (ofZ w64 (l c)) ≡ l c
 pl c = plain (l c) (c .before .before .before .fits .lmp .sfits)
 
+-- the price of point i, read back
 pp : (c : tie.After-price2) → toZ w64 (ofZ w64 (p c)) ≡ p c
 pp c = plain (p c) (omega arith)
 
+-- the price of the next, read back
 pq : (c : tie.After-price2) → toZ w64 (ofZ w64 (q c)) ≡ q c
 pq c = plain (q c) (omega arith)
 
@@ -56,8 +63,8 @@ add-kw c = search needs
 kw-requires-2 : tie.Need-kw-requires-2
 kw-requires-2 c κs = search needs
 
-above-requires : tie.Need-above-requires
-above-requires c κs = search needs
+less-requires : tie.Need-less-requires
+less-requires c κs = search needs
 
 gap-requires : tie.Need-gap-requires
 gap-requires c κs =
@@ -94,7 +101,7 @@ towards-spec =
     kw-requires
     add-kw
     kw-requires-2
-    above-requires
+    less-requires
     gap-requires
     gap-requires-2
     along-requires

@@ -15,11 +15,11 @@ word-requires c κs = search needs
 lesser-requires : tie.Need-lesser-requires
 lesser-requires c κs = search needs
 
-above-requires : tie.Need-above-requires
-above-requires c κs = search needs
+less-requires : tie.Need-less-requires
+less-requires c κs = search needs
 
-above-requires-2 : tie.Need-above-requires-2
-above-requires-2 c κs = search needs
+less-requires-2 : tie.Need-less-requires-2
+less-requires-2 c κs = search needs
 
 returns : tie.Need-returns
 unfolding rowAt
@@ -28,7 +28,7 @@ returns c =
     let e = start .args .expect .0 in
     let kind = c .before .before .before .word .ensures .0 in
     let supply = ⊎-elim (λ k. inl (sym kind ∙ k)) (λ k. inr (sym kind ∙ k)) (c .before .before .match .keys1) in
-    c .above .ensures ∙ ap (λ x. x - e) (c .before .lesser .ensures ∙ ap₂ min (start .pre .1 .0) (start .pre .1 .1)) ∙ sym (bonus-supply _ e supply)
+    c .less .ensures ∙ ap (λ x. x - e) (c .before .lesser .ensures ∙ ap₂ min (start .pre .1 .0) (start .pre .1 .1)) ∙ sym (bonus-supply _ e supply)
 
 returns-2 : tie.Need-returns-2
 unfolding rowAt
@@ -37,7 +37,7 @@ returns-2 c =
     let e = start .args .expect .0 in
     let kind = c .before .before .before .word .ensures .0 in
     let rest = c .before .before .match .rest .1 in
-    c .above2 .ensures ∙ ap (λ x. x - e) (start .pre .1 .0) ∙ sym (bonus-reducing _ e (λ k. rest (inl (kind ∙ k))) (omega (arith, kind, c .before .if1 .taken)))
+    c .less2 .ensures ∙ ap (λ x. x - e) (start .pre .1 .0) ∙ sym (bonus-reducing _ e (λ k. rest (inl (kind ∙ k))) (omega (arith, kind, c .before .if1 .taken)))
 
 returns-3 : tie.Need-returns-3
 unfolding rowAt
@@ -54,8 +54,8 @@ bonus-spec =
     (tie.spec
     word-requires
     lesser-requires
-    above-requires
-    above-requires-2
+    less-requires
+    less-requires-2
     returns
     returns-2
     returns-3)

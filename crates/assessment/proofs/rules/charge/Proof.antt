@@ -12,8 +12,8 @@ full-charge-requires c κs = search needs
 limit-requires : tie.Need-limit-requires
 limit-requires c κs = search needs
 
-above-requires : tie.Need-above-requires
-above-requires c κs = search needs
+less-requires : tie.Need-less-requires
+less-requires c κs = search needs
 
 lesser-requires : tie.Need-lesser-requires
 lesser-requires c κs = search needs
@@ -21,9 +21,9 @@ lesser-requires c κs = search needs
 returns : tie.Need-returns
 unfolding charge
 returns c =
-    let left = c .before .above .ensures ∙ ap (λ most. most - c .before .before .before .before .args .charged .0) (c .before .before .limit .ensures) in
+    let left = c .before .less .ensures ∙ ap (λ most. most - c .before .before .before .before .args .charged .0) (c .before .before .limit .ensures) in
     c .lesser .ensures ∙ ap₂ min (c .before .before .before .full-charge .ensures) left
 
 pub charge-spec : {M : Type 1} → statement M
 charge-spec =
-    tie.close (tie.spec full-charge-requires limit-requires above-requires lesser-requires returns)
+    tie.close (tie.spec full-charge-requires limit-requires less-requires lesser-requires returns)

@@ -1,4 +1,4 @@
--- `assessment::rules::reduction` meets its contract. What the row used above its actual.
+-- `assessment::rules::reduction` meets its contract. The actual less the committed kW, where positive.
 use Prim.Native.Nat.{_-_}
 use mathlib.Core.Path.{ap₂, _∙_}
 use native.Mathlib.Omega.{arith}
@@ -13,14 +13,14 @@ actual-requires c κs = search needs
 word-requires : tie.Need-word-requires
 word-requires c κs = search needs
 
-above-requires : tie.Need-above-requires
-above-requires c κs = search needs
+less-requires : tie.Need-less-requires
+less-requires c κs = search needs
 
 returns : tie.Need-returns
 unfolding rowAt
 returns c =
     let given = c .before .before .actual .ensures in
-    (c .above .ensures ∙ ap₂ _-_ (given .0) (c .before .word .ensures .0), omega (arith, c .above .ensures, given .1))
+    (c .less .ensures ∙ ap₂ _-_ (given .0) (c .before .word .ensures .0), omega (arith, c .less .ensures, given .1))
 
 pub reduction-spec : {M : Type 1} → statement M
-reduction-spec = tie.close (tie.spec actual-requires word-requires above-requires returns)
+reduction-spec = tie.close (tie.spec actual-requires word-requires less-requires returns)

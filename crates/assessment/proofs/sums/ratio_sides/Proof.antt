@@ -1,6 +1,6 @@
 -- `assessment::sums::ratio_sides` meets its contract. What is left to add is the shares of the rows from i on.
 use Prim.Native.Nat.{_+_, _-_, _*_, _≤_}
-use mathlib.Core.Path.{_≡_, ap, ap₂}
+use mathlib.Core.Path.{_≡_, ap, ap₂, _∙_}
 use mathlib.Core.Bool.{false}
 use native.Mathlib.Omega.{arith}
 use borrow.Author.Needs.{needs}
@@ -18,9 +18,9 @@ Inv-loop file rows first above₀ below₀ i₀ above below i =
     (first ≡ headerOf file .rowsOffset)
     × ((rows ≡ headerOf file .rowCount)
     × ((i ≤ rows)
-    × ((above + sum numeratorShare (rowsLeft file i) ≡ sum numeratorShare (rowsOf file))
-    × ((below + sum denominatorShare (rowsLeft file i) ≡ sum denominatorShare (rowsOf file))
-    × ((above ≤ 8589934592 * i) × ((below ≤ 8589934592 * i) × (any (fails file) (rowsLeft file i) ≡ false)))))))
+    × ((above .0 + sum numeratorShare (rowsLeft file i) ≡ sum numeratorShare (rowsOf file))
+    × ((below .0 + sum denominatorShare (rowsLeft file i) ≡ sum denominatorShare (rowsOf file))
+    × ((above .0 ≤ 8589934592 * i) × ((below .0 ≤ 8589934592 * i) × (any (fails file) (rowsLeft file i) ≡ false)))))))
 
 abbrev μ-loop : tie.MeasureT-loop
 μ-loop file rows first above₀ below₀ i₀ above below i = rows - i
@@ -105,11 +105,11 @@ denominator-share-requires c κs =
     let f = l .before .before .before .before .args .file .now in
     omega (arith, part-length f (l .before .word2 .result + 56 * l .loop .i))
 
-add-numerator : tie.Need-add-numerator Inv-loop μ-loop
-add-numerator c = search needs
+plus-requires : tie.Need-plus-requires Inv-loop μ-loop
+plus-requires c κs = search needs
 
-add-denominator : tie.Need-add-denominator Inv-loop μ-loop
-add-denominator c = search needs
+plus-requires-2 : tie.Need-plus-requires-2 Inv-loop μ-loop
+plus-requires-2 c κs = search needs
 
 add-i : tie.Need-add-i Inv-loop μ-loop
 add-i c = search needs
@@ -129,17 +129,19 @@ loop-again c =
     let curve = c .before .before .before .before .before .before .before .curve-at in
     let more = c .before .before .before .before .numerator-share in
     let less = c .before .before .denominator-share in
+    let up = c .before .plus in
+    let down = c .plus2 in
     let above = row-in-parts f numeratorShare i at (curve .result) (more .result .0) place (curve .ensures .0) (more .ensures .0) in
     let below = denominator-in-parts f i at (curve .result) (less .result .0) place (curve .ensures .0) (less .ensures .0) in
     let sums = inv .1 .1 .1 in
     let left = rows-turn f i (omega (arith, inv .1 .0, turn .loop-test .taken)) in
-    (inv .0, (inv .1 .0, (omega (arith, turn .loop-test .taken), (sum-turn numeratorShare _ _ _ left (sums .0) above, (sum-turn denominatorShare _ _ _ left (sums .1 .0) below, (omega (arith, more .ensures .1), (omega (arith, less .ensures .1), none-turn (fails f) left (sums .1 .1 .1 .1) .1)))))))
+    (inv .0, (inv .1 .0, (omega (arith, turn .loop-test .taken), (ap (λ kw. kw + sum numeratorShare (rowsLeft f (i + 1))) (up .ensures) ∙ sum-turn numeratorShare _ _ _ left (sums .0) above, (ap (λ kw. kw + sum denominatorShare (rowsLeft f (i + 1))) (down .ensures) ∙ sum-turn denominatorShare _ _ _ left (sums .1 .0) below, (omega (arith, up .ensures, more .ensures .1), (omega (arith, down .ensures, less .ensures .1), none-turn (fails f) left (sums .1 .1 .1 .1) .1)))))))
 
 import-share-requires : tie.Need-import-share-requires Inv-loop μ-loop
 import-share-requires c κs = search needs
 
-add-t12 : tie.Need-add-t12 Inv-loop μ-loop
-add-t12 c = search needs
+plus-requires-3 : tie.Need-plus-requires-3 Inv-loop μ-loop
+plus-requires-3 c κs = search needs
 
 returns : tie.Need-returns Inv-loop μ-loop
 unfolding numerator denominator
@@ -148,7 +150,7 @@ returns c =
     let f = l .before .before .before .before .args .file .now in
     let sums = l .loop .inv .1 .1 .1 in
     let none = rows-end f (l .loop .i) (omega arith) in
-    (ap₂ _+_ (sum-end numeratorShare _ _ none (sums .0)) (c .before .import-share .ensures .0), sum-end denominatorShare _ _ none (sums .1 .0))
+    (c .plus3 .ensures ∙ ap₂ _+_ (sum-end numeratorShare _ _ none (sums .0)) (c .before .import-share .ensures .0), sum-end denominatorShare _ _ none (sums .1 .0))
 
 pub ratio-sides-spec : {M : Type 1} → statement M
 ratio-sides-spec =
@@ -176,11 +178,11 @@ ratio-sides-spec =
     part-denominator-share-start
     part-denominator-share-end
     denominator-share-requires
-    add-numerator
-    add-denominator
+    plus-requires
+    plus-requires-2
     add-i
     loop-less
     loop-again
     import-share-requires
-    add-t12
+    plus-requires-3
     returns)
