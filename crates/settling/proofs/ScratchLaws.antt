@@ -6,40 +6,36 @@ use native.Mathlib.Nat.{sub-zero}
 use native.Mathlib.Omega.{arith}
 use lib.ListN.{length, take, drop, getD, set, take-append-drop}
 use lib.Seq.{drop-drop, getD-drop, take-add, drop-set-lt, take-suc-set}
+use Rattle.words.specs.Lists.{sum}
+use Rattle.words.proofs.Lists.{sum-start, sum-turn, sum-end}
+use Rattle.reading.proofs.Tables.{entriesFrom, table-start, table-turn, table-end}
 use Rattle.assessment.specs.Assessment.{share}
 use Rattle.settling.specs.Scratch.{sumOfWord, withCredits}
 
--- where n rows have i rows before them, one more is left
-more-left : (n i : ℕ) → i < n → n - i ≡ suc (n - (i + 1))
-more-left n i h = omega arith
+-- the sum of word k over n rows, by the rows that are left
+module _ (k n : ℕ) (ws : List ℕ) where
+  -- word k of each row from i on
+  abbrev pub wordLeft : ℕ → List ℕ
+  wordLeft = entriesFrom 8 (λ row. getD row k 0) n ws
 
-module _ (ws : List ℕ) where
-  -- eight words on from row i, row i + 1 begins
-  eight-on : (i : ℕ) → drop 8 (drop (8 * i) ws) ≡ drop (8 * (i + 1)) ws
-  eight-on i =
-      let next : 8 * i + 8 ≡ 8 * (i + 1) = omega arith in
-      drop-drop 8 (8 * i) ws ∙ ap (λ k. drop k ws) next
-
-  -- what is left of the sum of word k, from row i on
-  pub sum-of-start : (k n : ℕ) → 0 + sumOfWord k (n - 0) (drop (8 * 0) ws) ≡ sumOfWord k n ws
-  sum-of-start k n = let front : 8 * 0 ≡ 0 = omega arith in rw (front, sub-zero n) (omega arith)
+  -- before any is added, all rows are left
+  pub sum-of-start : 0 + sum (λ w. w) (wordLeft 0) ≡ sumOfWord k n ws
+  unfolding sumOfWord
+  sum-of-start = sum-start (λ w. w) (table-start 8 (λ row. getD row k 0) n ws)
 
   -- with word k of row i added to the sum so far, what is left is the sum over the rows after it
-  pub sum-of-turn : (k n i so all : ℕ) → i < n → so + sumOfWord k (n - i) (drop (8 * i) ws) ≡ all
-      → so + getD ws (8 * i + k) 0 + sumOfWord k (n - (i + 1)) (drop (8 * (i + 1)) ws) ≡ all
-  unfolding sumOfWord
-  sum-of-turn k n i so all h left =
-      let here : sumOfWord k (n - i) (drop (8 * i) ws) ≡ getD ws (8 * i + k) 0 + sumOfWord k (n - (i + 1)) (drop (8 * (i + 1)) ws)
-      = ap (λ m. sumOfWord k m (drop (8 * i) ws)) (more-left n i h) ∙ ap₂ (λ w rest. w + sumOfWord k (n - (i + 1)) rest) (getD-drop (8 * i) ws k 0) (eight-on i) in
-      omega (arith, here, left)
+  pub sum-of-turn : (i so all : ℕ) → i < n → so + sum (λ w. w) (wordLeft i) ≡ all → so + getD ws (8 * i + k) 0 + sum (λ w. w) (wordLeft (i + 1)) ≡ all
+  sum-of-turn i so all h adds = sum-turn (λ w. w) so all (getD ws (8 * i + k) 0) (table-turn 8 (λ row. getD row k 0) n ws i h) adds (sym (getD-drop (8 * i) ws k 0))
 
   -- where no row is left, the sum so far is the whole sum
-  pub sum-of-end : (k n i so all : ℕ) → n ≤ i → so + sumOfWord k (n - i) (drop (8 * i) ws) ≡ all → so ≡ all
-  unfolding sumOfWord
-  sum-of-end k n i so all h left =
-      let none : n - i ≡ 0 = omega arith in
-      let zero : sumOfWord k (n - i) (drop (8 * i) ws) ≡ 0 = rw none in
-      omega (arith, zero, left)
+  pub sum-of-end : (i so all : ℕ) → n ≤ i → so + sum (λ w. w) (wordLeft i) ≡ all → so ≡ all
+  sum-of-end i so all h adds = sum-end (λ w. w) so all (table-end 8 (λ row. getD row k 0) n ws i h) adds
+
+-- eight words on from row i, row i + 1 begins
+eight-on : (ws : List ℕ) (i : ℕ) → drop 8 (drop (8 * i) ws) ≡ drop (8 * (i + 1)) ws
+eight-on ws i =
+    let next : 8 * i + 8 ≡ 8 * (i + 1) = omega arith in
+    drop-drop 8 (8 * i) ws ∙ ap (λ k. drop k ws) next
 
 -- lists that agree from a place on agree at each later place
 pub same-word : (p k : ℕ) (ws vs : List ℕ) → drop p ws ≡ drop p vs → getD ws (p + k) 0 ≡ getD vs (p + k) 0
@@ -63,6 +59,7 @@ module _ (cents total n : ℕ) where
   unfolding withCredits
   credit-turn ws i v h long e =
       let next : 8 * (i + 1) ≡ suc (8 * i + 7) = omega arith in
+      let more : suc (n - (i + 1)) ≡ n - i = omega arith in
       let front : take (8 * (i + 1)) (set ws (8 * i + 7) v) ≡ take (8 * i) ws ++ (take 7 (drop (8 * i) ws) ++ (v ∷ []))
       = ap (λ k. take k (set ws (8 * i + 7) v)) next ∙ take-suc-set ws (8 * i + 7) v (omega arith) ∙ ap (λ l. l ++ (v ∷ [])) (take-add (8 * i) 7 ws) ∙ append-assoc (take (8 * i) ws) (take 7 (drop (8 * i) ws)) (v ∷ []) in
       let rest : drop (8 * (i + 1)) (set ws (8 * i + 7) v) ≡ drop 8 (drop (8 * i) ws)
@@ -72,7 +69,7 @@ module _ (cents total n : ℕ) where
       ap₂ (λ l r. l ++ withCredits cents total (n - (i + 1)) r) front rest
       ∙ append-assoc (take (8 * i) ws) (take 7 (drop (8 * i) ws) ++ (v ∷ [])) later
       ∙ ap (λ l. take (8 * i) ws ++ l) (append-assoc (take 7 (drop (8 * i) ws)) (v ∷ []) later ∙ ap (λ w. take 7 (drop (8 * i) ws) ++ (w ∷ later)) due)
-      ∙ ap (λ m. take (8 * i) ws ++ withCredits cents total m (drop (8 * i) ws)) (sym (more-left n i h))
+      ∙ ap (λ m. take (8 * i) ws ++ withCredits cents total m (drop (8 * i) ws)) more
 
   -- where no row is left to credit, the words stay as they are
   pub credit-end : (ws : List ℕ) (i : ℕ) → n ≤ i → creditsLeft ws i ≡ ws

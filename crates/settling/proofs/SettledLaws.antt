@@ -9,7 +9,7 @@ use lib.ListN.{length, take, drop, getD, length-map, length-append, List·getD-a
 use lib.Dec.{eqb}
 use lib.Seq.{drop-drop, drop-at, length-take-le, getD-append-add}
 use Rattle.words.specs.Lists.{sum, any}
-use Rattle.words.specs.Words.{bytesOfWords, written, writtenAt}
+use Rattle.words.specs.Words.{entries, bytesOfWords, written, writtenAt}
 use Rattle.words.proofs.Lists.{sum-most, member-le, EachBelow, below-nil, below-cons, below-at}
 use Rattle.words.proofs.Access.{words-append}
 use Rattle.words.proofs.Tests.{not-first, not-second}
@@ -34,7 +34,7 @@ length-row-words credited (c ∷ cs) = omega (arith, length-row-words credited c
 -- word k, summed over rows, is the sum of each row's own word k
 sum-of-words : (credited : ChargedRow → ℕ) (k : ℕ) → k < 8 → (cs : List ChargedRow)
     → sumOfWord k (length cs) (rowWords credited cs) ≡ sum (λ c. getD (rowWords credited (c ∷ [])) k 0) cs
-unfolding sumOfWord rowWords sum
+unfolding sumOfWord entries rowWords sum
 sum-of-words credited k low [] = refl
 sum-of-words credited k low (c ∷ cs) =
     ap₂ _+_ (List·getD-append (rowWords credited (c ∷ [])) (rowWords credited cs) 0 k low) (sum-of-words credited k low cs)

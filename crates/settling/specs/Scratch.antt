@@ -1,10 +1,11 @@
--- What the code of settling relies on and keeps while it works: what grounds 6 to 14 leave, and the rows' words in scratch, eight a row as the result has them.
+-- The code's own work, of which no sentence of document 01 speaks: what settling relies on once grounds 6 to 14 have passed, and the rows' words in scratch, eight a row as the result has them.
 use Prim.Native.Nat.{ℕ, zero, suc, _+_, _*_, _≤_}
 use mathlib.Core.Path.{_≡_}
 use mathlib.Core.List.{List, _∷_, _++_}
 use mathlib.Core.Bool.{false}
 use lib.ListN.{length, take, drop, getD}
-use Rattle.words.specs.Lists.{any}
+use Rattle.words.specs.Lists.{sum, any}
+use Rattle.words.specs.Words.{entries}
 use Rattle.reading.specs.Block.{mostIds, termsOutside, idsOutOfOrder}
 use Rattle.reading.specs.Interval.{headerBytes, rowBytes, pointBytes, mostRows, headerOf, rowsOf, headerOutside, rowOutside, pointsOutside}
 use Rattle.assessment.specs.Assessment.{ChargedRow, share}
@@ -33,8 +34,7 @@ chargedWords = rowWords (λ c. 0)
 
 -- the sum of word k over n rows
 unfoldable pub sumOfWord : ℕ → ℕ → List ℕ → ℕ
-sumOfWord k zero ws = 0
-sumOfWord k (suc n) ws = getD ws k 0 + sumOfWord k n (drop 8 ws)
+sumOfWord k n ws = sum (λ w. w) (entries 8 (λ row. getD row k 0) n ws)
 
 -- n rows with the credit of each: the share of cents that its bonus, word 5, has in a total
 unfoldable pub withCredits : ℕ → ℕ → ℕ → List ℕ → List ℕ

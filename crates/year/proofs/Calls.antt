@@ -1,42 +1,30 @@
 -- What holds of a year holds after any calls if each accepted one keeps it, since a refused one changes nothing.
 use Prim.Native.Nat.{ℕ}
 use mathlib.Core.Path.{_≡_, refl, sym, ap, subst}
-use mathlib.Core.List.{List, [], _∷_, _++_}
-use mathlib.Core.Bool.{Bool, true, false, cond}
+use mathlib.Core.List.{List, [], _∷_}
+use mathlib.Core.Bool.{Bool, true, false}
 use lib.Dec.{eqb}
 use borrow.Author.Tests.{eqb-true}
 use Rattle.words.specs.Grounds.{answered}
-use Rattle.settling.specs.Settling.{settlingGrounds, SettlingAnswer, settling}
+use Rattle.settling.specs.Settling.{settlingGrounds, settling}
 use Rattle.settling.proofs.SettlingAnswers.{settledAnswer, settling-accepts, settling-refuses}
-use Rattle.year.specs.Year.{Call, Year, givenBy, afterCall, afterCalls}
+use Rattle.year.specs.Year.{Call, Year, afterAnswer, afterCall, afterCalls}
 
--- a year after an accepted call
-abbrev pub accept : Year → Call → Year
-accept y c =
-    let a = settledAnswer (y .ledger) (c .file) (c .result) in
-    record { ledger = a .ledger; given = y .given ++ givenBy (c .file) (a .result); last = givenBy (c .file) (a .result) }
-
--- a year after a call that gave an answer
-abbrev after : Year → Call → SettlingAnswer → Year
-after y c a =
-    cond (eqb (a .ground) 0)
-    (record { ledger = a .ledger; given = y .given ++ givenBy (c .file) (a .result); last = givenBy (c .file) (a .result) })
-    (record { ledger = a .ledger; given = y .given; last = y .last })
-
-module _ (P : Year → Type 0) (step : (y : Year) (c : Call) → P y → settling (y .ledger) (c .file) (c .result) .ground ≡ 0 → P (accept y c)) where
+module _ (P : Year → Type 0)
+    (step : (y : Year) (c : Call) → P y → settling (y .ledger) (c .file) (c .result) .ground ≡ 0 → P (afterAnswer y c (settledAnswer (y .ledger) (c .file) (c .result)))) where
   -- what each accepted call keeps still holds after one call, accepted or refused
   after-call : (y : Year) (c : Call) → P y → P (afterCall y c)
-  unfolding afterCall
+  unfolding afterCall afterAnswer
   after-call y c k = by (eqb (answered (settlingGrounds (y .ledger) (c .file) (c .result))) 0) refl
     where
       g : ℕ
       g = answered (settlingGrounds (y .ledger) (c .file) (c .result))
 
-      by : (t : Bool) → eqb g 0 ≡ t → P (after y c (settling (y .ledger) (c .file) (c .result)))
+      by : (t : Bool) → eqb g 0 ≡ t → P (afterAnswer y c (settling (y .ledger) (c .file) (c .result)))
       by true e =
           let a = settling-accepts (y .ledger) (c .file) (c .result) (eqb-true g 0 e) in
-          subst (λ a. P (after y c a)) (sym a) (step y c k (ap (λ a. a .ground) a))
-      by false e = subst (λ a. P (after y c a)) (sym (settling-refuses (y .ledger) (c .file) (c .result) e)) (rw e k)
+          subst (λ a. P (afterAnswer y c a)) (sym a) (step y c k (ap (λ a. a .ground) a))
+      by false e = subst (λ a. P (afterAnswer y c a)) (sym (settling-refuses (y .ledger) (c .file) (c .result) e)) (rw e k)
 
   -- so it holds after any list of calls, where it holds of the year before them
   pub after-calls : (y : Year) (calls : List Call) → P y → P (afterCalls y calls)

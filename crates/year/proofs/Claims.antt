@@ -19,16 +19,16 @@ use Rattle.ledger.specs.Ledger.{mostCents, ledgerHeaderBytes, accountBytes, Led
 use Rattle.ledger.specs.Opening.{openingGrounds, openedLedger, opening}
 use Rattle.settling.proofs.SettledLaws.{length-row-words}
 use Rattle.settling.specs.Settling.{assessedFile, resultWords, postedAll, settlingGrounds, settledLedger, settling}
-use Rattle.year.specs.Year.{Call, GivenRow, givenBy, newYear, afterCalls}
-use Rattle.year.specs.Claims.{SumsOfAYear, NeverLockedOut, Holds, OpeningReadsBack, ReadsBack, SettlingReadsBack, OpeningAnswers, OpeningRefusals, SettlingAnswers, SettlingRefusals}
+use Rattle.year.specs.Year.{Call, newYear, afterCalls}
+use Rattle.year.specs.Claims.{SummedOverRows, SumsOfAYear, NeverLockedOut, Holds, OpeningReadsBack, ReadsBack, SettlingReadsBack, OpeningAnswers, OpeningRefusals, SettlingAnswers, SettlingRefusals}
 use Rattle.ledger.proofs.Sound.{opening-none, block-accepted, ledger-room}
 use Rattle.settling.proofs.Accepted.{settling-none, Accepted, accepted}
 use Rattle.year.proofs.LedgerBack.{Fits, ledger-words-fit, LedgerFits, length-ledger}
-use Rattle.year.proofs.Fits.{made, new, new-charges, new-credits, new-bonus, ledger-fits, result-words-fit}
+use Rattle.year.proofs.Fits.{made, new-sums, ledger-fits, result-words-fit}
 use Rattle.settling.proofs.SettlingAnswers.{settledAnswer, settling-accepts, settling-refuses}
 use Rattle.ledger.proofs.OpeningAnswers.{opening-accepts, opening-refuses}
 use Rattle.year.proofs.Calls.{after-calls}
-use Rattle.year.proofs.Step.{Kept, good-block, pool-small, given-made, accept-kept, opened-fits, opened-room, opened-kept}
+use Rattle.year.proofs.Step.{Kept, good-block, pool-small, interval-made, accept-kept, opened-fits, opened-room, opened-kept}
 
 -- a year on a block of bytes, after any calls
 kept : (block ledger : List ℕ) → Bytes block → opening block ledger .ground ≡ 0 → (calls : List Call)
@@ -93,31 +93,14 @@ module _ (ledger file result : List ℕ) (bytes : Bytes ledger) (s : Accepted le
   unfolding assessedFile
   result-fits = result-words-fit l (headerOf file) (rowsOf file) (s .rows) small (s .header) (s .rows-few)
 
-  -- a word of the written result
-  result-word : (k : ℕ) → k < length (resultWords v) → word64 (written (resultWords v) result) k ≡ getD (resultWords v) k 0
-  unfolding word64 numberAt written assessedFile
-  result-word k h = word-back 8 (resultWords v) (drop (8 * length (resultWords v)) result) k result-fits h
-
-  -- a result has eight words or more
-  many : 8 ≤ length (resultWords v)
-  unfolding resultWords
-  many = omega arith
-
   -- ledger and result are read back, and charges, credits and bonus are the sums over the rows given
   settled-back : ReadsBack ledger file result (settledAnswer ledger file result)
-  unfolding resultWords assessedFile
-  settled-back =
-      let h = headerOf file in
-      let rs = rowsOf file in
-      let back : (f : GivenRow → ℕ) (total : ℕ) → sum f (new l h rs) ≡ total → total ≡ sum f (givenBy file (written (resultWords v) result))
-      = λ f total e. sym e ∙ sym (ap (sum f) (given-made ledger file result s)) in
-      record {
-        ledger-holds = written-held (ledgerWords (settledLedger ledger file)) ledger (ledger-words-fit (settledLedger ledger file) settled-fits);
-        result-holds = written-held (resultWords v) result result-fits;
-        charges = result-word 1 (omega (arith, many)) ∙ back (λ g. g .charge) (charges v) (new-charges l h rs);
-        credits = result-word 2 (omega (arith, many)) ∙ back (λ g. g .credit) (credits v) (new-credits l h rs);
-        bonus = result-word 4 (omega (arith, many)) ∙ back (λ g. g .bonus) (totalBonus v) (new-bonus l h rs);
-      }
+  unfolding assessedFile
+  settled-back = record {
+    ledger-holds = written-held (ledgerWords (settledLedger ledger file)) ledger (ledger-words-fit (settledLedger ledger file) settled-fits);
+    result-holds = written-held (resultWords v) result result-fits;
+    sums = subst SummedOverRows (sym (interval-made ledger file result s)) (new-sums l (headerOf file) (rowsOf file));
+  }
 
 -- so it is for every accepted call of settling on a ledger of bytes
 pub settling-reads-back : SettlingReadsBack

@@ -5,9 +5,11 @@ use mathlib.Core.List.{List, [], _∷_, map, List·Memᴰ, List·Memᴰ·head, L
 use mathlib.Core.Bool.{Bool, true, false, cond}
 use native.Mathlib.Nat.{mul-le-mul-right}
 use native.Mathlib.Omega.{arith}
-use lib.ListN.{length, length-map}
+use lib.ListN.{length, length-map, drop, getD}
 use lib.Dec.{eqb}
 use Rattle.words.specs.Lists.{sum}
+use Rattle.words.specs.Words.{numberAt, word64, written}
+use Rattle.words.proofs.Words.{word-back}
 use Rattle.words.proofs.Lists.{sum-le, sum-map, sum-most, below-cons}
 use Rattle.reading.specs.Interval.{mostKilowatts, mostRows, Header, Row}
 use Rattle.reading.proofs.Bounds.{terms-in, HeaderIn, RowIn}
@@ -18,7 +20,8 @@ use Rattle.assessment.proofs.Shares.{credits-le}
 use Rattle.ledger.specs.Ledger.{mostCents, Ledger}
 use Rattle.settling.specs.Settling.{resultWords, postedAll}
 use Rattle.settling.proofs.SettledLaws.{RowWithin, row-within, row-words-below}
-use Rattle.year.specs.Year.{GivenRow, sumOfPlant, largestOfPlant}
+use Rattle.year.specs.Year.{GivenRow, GivenInterval, sumOfPlant, largestOfPlant}
+use Rattle.year.specs.Claims.{SummedOverRows}
 use Rattle.ledger.proofs.Sound.{LedgerIn}
 use Rattle.year.proofs.LedgerBack.{Fits, AccountFits, LedgerFits}
 use Rattle.year.proofs.Given.{givenOf, GivenFits}
@@ -66,6 +69,14 @@ module _ (l : Ledger) (h : Header) (rs : List Row) where
   pub new-bonus : sum (λ g. g .bonus) new ≡ totalBonus made
   unfolding totalBonus givenOf
   new-bonus = sum-map (λ g. g .bonus) (givenOf made) (made .rows)
+
+  -- the interval as it is given
+  abbrev pub newInterval : GivenInterval
+  newInterval = record { charges = charges made; credits = credits made; carried = carriedOn made; bonus = totalBonus made; rows = new }
+
+  -- its charges, credits and total bonus are the sums over its rows
+  pub new-sums : SummedOverRows newInterval
+  new-sums = record { charges = sym new-charges; credits = sym new-credits; bonus = sym new-bonus }
 
   -- the pool is the cents carried in the ledger plus the charges of the interval
   pub pool-is : pool made ≡ l .carried + charges made
@@ -164,3 +175,8 @@ module _ (l : Ledger) (h : Header) (rs : List Row) where
         let on = below-cons {n = 2 ^ 64} (carriedOn made) _ (unfold carriedOn in omega (arith, small)) bonus in
         let cents = below-cons (charges made) _ (omega (arith, pool-is, small)) (below-cons (credits made) _ (omega (arith, credits-le made, small)) on) in
         below-cons (printedRatio (made .ratio)) _ (omega (arith, printed-le (made .ratio))) cents
+
+    -- a word of the interval is read back from a buffer that the result has been written to
+    pub result-word : HeaderIn h → length rs ≤ mostRows → (result : List ℕ) (k : ℕ) → k < 8 → word64 (written (resultWords made) result) k ≡ getD (resultWords made) k 0
+    unfolding word64 numberAt written resultWords
+    result-word header few result k h = word-back 8 (resultWords made) (drop (8 * length (resultWords made)) result) k (result-words-fit header few) (omega arith)

@@ -2,7 +2,7 @@
 use Prim.Native.Nat.{ℕ, _+_, _^_, _<_, _≤_, max}
 use mathlib.Core.Path.{_≡_, refl, sym, ap, _∙_, subst}
 use mathlib.Core.Logic.{_⊎_, ⊎-elim}
-use mathlib.Core.List.{List, [], _∷_, _++_, map, List·Memᴰ, List·Memᴰ·not-nil, List·Memᴰ·append-cases, Memᴰ·of-map}
+use mathlib.Core.List.{List, [], _∷_, _++_, map, List·Memᴰ, List·Memᴰ·not-nil, List·Memᴰ·append-cases, List·Memᴰ·eq-of-singleton, Memᴰ·of-map}
 use mathlib.Core.Bool.{false, cond}
 use native.Mathlib.Omega.{arith}
 use lib.ListN.{length, length-map}
@@ -19,16 +19,16 @@ use Rattle.assessment.proofs.Shares.{credits-le, carried-lt}
 use Rattle.ledger.specs.Ledger.{mostCents, Ledger, ledgerBytes, ledgerOf, ledgerWords, idsIn, notALedger}
 use Rattle.ledger.specs.Opening.{openedLedger}
 use Rattle.settling.specs.Settling.{assessedFile, resultWords, postedAll, settledLedger, settling}
-use Rattle.year.specs.Year.{Call, GivenRow, givenBy, Year, newYear, sumOfPlant, largestOfPlant, accountByRows, rowsWithBonus}
-use Rattle.year.specs.Claims.{SumsHold}
+use Rattle.year.specs.Year.{Call, GivenRow, GivenInterval, givenBy, intervalBy, Year, newYear, afterAnswer, sumOfPlant, largestOfPlant, accountByRows, rowsWithBonus}
+use Rattle.year.specs.Claims.{SummedOverRows, SumsHold}
 use Rattle.ledger.proofs.Sound.{BlockAccepted, ledger-room}
 use Rattle.settling.proofs.Accepted.{Accepted, accepted}
 use Rattle.year.proofs.LedgerBack.{AccountFits, LedgerFits, ledger-back, written-holds}
 use Rattle.year.proofs.Given.{givenOf, given-back}
-use Rattle.year.proofs.Fits.{made, new, new-charges, new-credits, new-bonus, pool-is, from-row, row-fits, new-committed, ledger-fits}
+use Rattle.year.proofs.Fits.{made, new, new-charges, new-credits, new-bonus, newInterval, new-sums, pool-is, from-row, row-fits, new-committed, ledger-fits, result-word}
 use Rattle.year.proofs.Totals.{largest-append, plant-append}
 use Rattle.year.proofs.Limits.{within-limit}
-use Rattle.year.proofs.Calls.{accept}
+use Rattle.settling.proofs.SettlingAnswers.{settledAnswer}
 use Rattle.ledger.proofs.OpeningAnswers.{openedAnswer}
 use Rattle.year.proofs.Books.{id-fits, found, posted-accounts, Books, GoodBlock, same-ids, in-order}
 
@@ -55,7 +55,7 @@ unfolding assessedFile
 pool-small ledger file result s = s .pool
 
 -- the rows read back from the result that such a file leaves are those that the interval gives
-pub given-made : (ledger file result : List ℕ) → Accepted ledger file result
+given-made : (ledger file result : List ℕ) → Accepted ledger file result
     → givenBy file (written (resultWords (made (ledgerOf ledger) (headerOf file) (rowsOf file))) result) ≡ new (ledgerOf ledger) (headerOf file) (rowsOf file)
 unfolding assessed
 given-made ledger file result s =
@@ -63,6 +63,20 @@ given-made ledger file result s =
     let h = headerOf file in
     let rs = rowsOf file in
     given-back (made l h rs) (l .terms) (l .accounts) (ratioOf h rs) file result refl (row-fits l h rs (s .rows) (pool-small ledger file result s))
+
+-- and the whole interval is read back as it is given
+pub interval-made : (ledger file result : List ℕ) → Accepted ledger file result
+    → intervalBy file (written (resultWords (made (ledgerOf ledger) (headerOf file) (rowsOf file))) result) ≡ newInterval (ledgerOf ledger) (headerOf file) (rowsOf file)
+unfolding intervalBy resultWords
+interval-made ledger file result s =
+    let word = result-word (ledgerOf ledger) (headerOf file) (rowsOf file) (s .rows) (pool-small ledger file result s) (s .header) (s .rows-few) result in
+    λ i. record {
+      charges = word 1 (omega arith) i;
+      credits = word 2 (omega arith) i;
+      carried = word 3 (omega arith) i;
+      bonus = word 4 (omega arith) i;
+      rows = given-made ledger file result s i;
+    }
 
 -- an accepted call on a year that keeps the sums
 module _ (block : List ℕ) (bytes : Bytes block) (good : GoodBlock block) (y : Year) (k : Kept block y) (c : Call)
@@ -173,6 +187,10 @@ module _ (block : List ℕ) (bytes : Bytes block) (good : GoodBlock block) (y : 
       let h = headerOf (c .file) in
       rw (sum-map (λ g. cond (ltb 0 (g .bonus)) 1 0) (givenOf v) (v .rows)) (carried-lt (l .terms) (l .accounts) (l .carried) h rs (rw (new-bonus l h rs) at p))
 
+  -- the interval given has the sums over its own rows
+  new-summed : (i : GivenInterval) → List·Memᴰ i (newInterval l (headerOf (c .file)) rs ∷ []) → SummedOverRows i
+  new-summed i m = subst SummedOverRows (sym (List·Memᴰ·eq-of-singleton m)) (new-sums l (headerOf (c .file)) rs)
+
   -- ground 6 does not refuse the ledger that is left
   left-holds : notALedger (written (ledgerWords after) (y .ledger)) ≡ false
   unfolding after
@@ -184,17 +202,20 @@ module _ (block : List ℕ) (bytes : Bytes block) (good : GoodBlock block) (y : 
       (in-order block good after (y .given ++ gs) new-books (omega (arith, early, s .days)) (unfold carriedOn in omega (arith, small)))
 
   -- so an accepted call keeps the sums, the books, and a ledger that ground 6 does not refuse
-  pub accept-kept : Kept block (accept y c)
-  unfolding settledLedger assessedFile after
+  pub accept-kept : Kept block (afterAnswer y c (settledAnswer (y .ledger) (c .file) (c .result)))
+  unfolding afterAnswer settledLedger assessedFile after
   accept-kept =
       let left = written (ledgerWords after) (y .ledger) in
       let back : ledgerOf left ≡ after = ledger-back after (y .ledger) after-fits in
       let carried : word64 left 4 ≡ carriedOn v = carried-word left ∙ ap (λ l. l .carried) back in
       let books = subst (λ l. Books block l (y .given ++ gs)) (sym back) new-books in
-      subst (λ rows. Kept block (record { ledger = left; given = y .given ++ rows; last = rows })) (sym (given-made (y .ledger) (c .file) (c .result) s))
+      subst (λ i. Kept block (record { ledger = left; intervals = y .intervals ++ (i ∷ []); given = y .given ++ i .rows; last = i }))
+      (sym (interval-made (y .ledger) (c .file) (c .result) s))
       (record {
         sums = record {
           closes = rw carried new-closes;
+          intervals = λ i m. ⊎-elim (k .sums .intervals i) (new-summed i) (List·Memᴰ·append-cases (y .intervals) m);
+          carried = carried;
           rest = λ p. rw carried (new-rest p);
           exclusive = λ g m. ⊎-elim (k .sums .exclusive g) (new-exclusive g) (List·Memᴰ·append-cases (y .given) m);
           limited = new-limited;
@@ -255,7 +276,7 @@ module _ (block ledger : List ℕ) (s : BlockAccepted block ledger) where
 
   -- a new year on it has what every call keeps
   pub opened-kept : Bytes block → Kept block (newYear (openedAnswer block ledger .ledger))
-  unfolding newYear sum
+  unfolding newYear sum openedLedger
   opened-kept bytes =
       let left = written (ledgerWords opened) ledger in
       let back : ledgerOf left ≡ opened = ledger-back opened ledger (opened-fits bytes) in
@@ -263,6 +284,8 @@ module _ (block ledger : List ℕ) (s : BlockAccepted block ledger) where
       record {
         sums = record {
           closes = rw (carried-word left) (books .closes);
+          intervals = λ i m. absurd (List·Memᴰ·not-nil m);
+          carried = carried-word left ∙ ap (λ l. l .carried) back;
           rest = λ p. omega arith;
           exclusive = λ g m. absurd (List·Memᴰ·not-nil m);
           limited = books .limited;

@@ -12,23 +12,37 @@ use Rattle.assessment.specs.Assessment.{limit}
 use Rattle.ledger.specs.Ledger.{ledgerOf, ledgerWords, notALedger}
 use Rattle.ledger.specs.Opening.{openedLedger, OpeningAnswer, opening}
 use Rattle.settling.specs.Settling.{resultWords, assessedFile, settledLedger, SettlingAnswer, settling}
-use Rattle.year.specs.Year.{Call, GivenRow, givenBy, Year, newYear, afterCalls, sumOfPlant, largestOfPlant, accountByRows, rowsWithBonus}
+use Rattle.year.specs.Year.{Call, GivenRow, GivenInterval, intervalBy, Year, newYear, afterCalls, sumOfPlant, largestOfPlant, accountByRows, rowsWithBonus}
+
+-- x is a member of xs
+abbrev pub Member : {A : Type 0} → A → List A → Type 0
+Member x xs = List·Memᴰ x xs
+
+-- an interval given whose charges, credits and total bonus are the sums over its own rows
+pub record SummedOverRows (i : GivenInterval) : Type 0 where
+  pub charges : i .charges ≡ sum (λ g. g .charge) (i .rows)
+  pub credits : i .credits ≡ sum (λ g. g .credit) (i .rows)
+  pub bonus : i .bonus ≡ sum (λ g. g .bonus) (i .rows)
 
 -- demand 3, of a year on an opening block
 pub record SumsHold (block : List ℕ) (y : Year) : Type 0 where
   -- all charges given are all credits given plus the cents carried, word 4 of the ledger
   pub closes : sum (λ g. g .charge) (y .given) ≡ sum (λ g. g .credit) (y .given) + word64 (y .ledger) 4
+  -- of every interval given, charges, credits and total bonus are the sums over its own rows
+  pub intervals : (i : GivenInterval) → Member i (y .intervals) → SummedOverRows i
+  -- the cents carried are those that the last interval says, and 0 before any interval
+  pub carried : word64 (y .ledger) 4 ≡ y .last .carried
   -- after a file with bonus the cents carried are fewer than its rows with bonus
-  pub rest : 0 < sum (λ g. g .bonus) (y .last) → word64 (y .ledger) 4 < rowsWithBonus (y .last)
+  pub rest : 0 < sum (λ g. g .bonus) (y .last .rows) → word64 (y .ledger) 4 < rowsWithBonus (y .last .rows)
   -- no row given has a shortfall and a bonus
-  pub exclusive : (g : GivenRow) → List·Memᴰ g (y .given) → (g .shortfall ≡ 0) ⊎ (g .bonus ≡ 0)
+  pub exclusive : (g : GivenRow) → Member g (y .given) → (g .shortfall ≡ 0) ⊎ (g .bonus ≡ 0)
   -- no plant's charges exceed the limit of its largest commitment so far
-  pub limited : (i : ℕ) → List·Memᴰ i (blockOf block .ids)
+  pub limited : (i : ℕ) → Member i (blockOf block .ids)
       → sumOfPlant i (λ g. g .charge) (y .given) ≤ limit (blockOf block .terms) (largestOfPlant i (y .given))
   -- the accounts are those of the block in its order, each with its largest commitment and the sums of its own charges and credits
   pub accounts : ledgerOf (y .ledger) .accounts ≡ map (accountByRows (y .given)) (blockOf block .ids)
   -- every row given has an id of the block
-  pub known : (g : GivenRow) → List·Memᴰ g (y .given) → List·Memᴰ (g .id) (blockOf block .ids)
+  pub known : (g : GivenRow) → Member g (y .given) → Member (g .id) (blockOf block .ids)
 
 -- The sums of a year, over every list of settling calls from a freshly opened ledger
 unfoldable pub SumsOfAYear : Type 0
@@ -57,9 +71,7 @@ pub record ReadsBack (ledger file result : List ℕ) (a : SettlingAnswer) : Type
   pub ledger-holds : Holds (ledgerWords (settledLedger ledger file)) ledger (a .ledger)
   pub result-holds : Holds (resultWords (assessedFile ledger file)) result (a .result)
   -- result words 1, 2 and 4 are the sums of the row words read back
-  pub charges : word64 (a .result) 1 ≡ sum (λ g. g .charge) (givenBy file (a .result))
-  pub credits : word64 (a .result) 2 ≡ sum (λ g. g .credit) (givenBy file (a .result))
-  pub bonus : word64 (a .result) 4 ≡ sum (λ g. g .bonus) (givenBy file (a .result))
+  pub sums : SummedOverRows (intervalBy file (a .result))
 
 -- Read back, of settling: for every call accepted on a ledger of bytes, a foreign one too
 unfoldable pub SettlingReadsBack : Type 0

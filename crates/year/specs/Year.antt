@@ -1,4 +1,4 @@
--- A year of settling calls: the rows that they gave, read back from the result bytes.
+-- A year of settling calls: the intervals and the rows that they gave, read back from the result bytes.
 use Prim.Native.Nat.{ℕ, max}
 use mathlib.Core.List.{List, [], _∷_, _++_}
 use mathlib.Core.Bool.{cond}
@@ -8,7 +8,7 @@ use Rattle.words.specs.Lists.{sum}
 use Rattle.words.specs.Words.{word64}
 use Rattle.reading.specs.Interval.{Row, rowsOf}
 use Rattle.assessment.specs.Assessment.{Account}
-use Rattle.settling.specs.Settling.{resultHeaderBytes, resultRowBytes, settling}
+use Rattle.settling.specs.Settling.{resultHeaderBytes, resultRowBytes, SettlingAnswer, settling}
 
 -- a settling call: the file and the result buffer that it is handed
 pub record Call : Type 0 where
@@ -35,24 +35,41 @@ givenFrom (r ∷ rs) b =
 unfoldable pub givenBy : List ℕ → List ℕ → List GivenRow
 givenBy file result = givenFrom (rowsOf file) (drop resultHeaderBytes result)
 
--- after some calls: the ledger, all rows given, and those of the last accepted file
+-- an interval given: what words 1 to 4 of an accepted call's result say of it, and the rows that the call gave
+pub record GivenInterval : Type 0 where
+  pub charges : ℕ
+  pub credits : ℕ
+  pub carried : ℕ
+  pub bonus : ℕ
+  pub rows : List GivenRow
+
+-- the interval that an accepted call gave, as it left it in the result
+unfoldable pub intervalBy : List ℕ → List ℕ → GivenInterval
+intervalBy file result =
+    record { charges = word64 result 1; credits = word64 result 2; carried = word64 result 3; bonus = word64 result 4; rows = givenBy file result }
+
+-- after some calls: the ledger, the intervals given, all their rows, and the interval of the last accepted file
 pub record Year : Type 0 where
   pub ledger : List ℕ
+  pub intervals : List GivenInterval
   pub given : List GivenRow
-  pub last : List GivenRow
+  pub last : GivenInterval
 
--- a year before any call
+-- a year before any call: nothing is given, and the last interval is one of zeros
 unfoldable pub newYear : List ℕ → Year
-newYear ledger = record { ledger = ledger; given = []; last = [] }
+newYear ledger = record { ledger = ledger; intervals = []; given = []; last = record { charges = 0; credits = 0; carried = 0; bonus = 0; rows = [] } }
 
--- a year after one more call; a refused one gives nothing
-unfoldable pub afterCall : Year → Call → Year
-afterCall y c =
-    let a = settling (y .ledger) (c .file) (c .result) in
-    let rows = givenBy (c .file) (a .result) in
+-- a year after a call that had this answer; a refused one gives nothing
+unfoldable pub afterAnswer : Year → Call → SettlingAnswer → Year
+afterAnswer y c a =
+    let i = intervalBy (c .file) (a .result) in
     cond (eqb (a .ground) 0)
-    (record { ledger = a .ledger; given = y .given ++ rows; last = rows })
-    (record { ledger = a .ledger; given = y .given; last = y .last })
+    (record { ledger = a .ledger; intervals = y .intervals ++ (i ∷ []); given = y .given ++ i .rows; last = i })
+    (record { ledger = a .ledger; intervals = y .intervals; given = y .given; last = y .last })
+
+-- a year after one more call
+unfoldable pub afterCall : Year → Call → Year
+afterCall y c = afterAnswer y c (settling (y .ledger) (c .file) (c .result))
 
 -- a year after a list of calls
 unfoldable pub afterCalls : Year → List Call → Year

@@ -3,14 +3,14 @@ use Prim.Native.Nat.{_+_, _-_, _*_, _≤_}
 use mathlib.Core.Path.{_≡_}
 use native.Mathlib.Omega.{arith}
 use borrow.Author.Needs.{needs}
-use lib.ListN.{drop}
+use Rattle.words.specs.Lists.{sum as sumOf}
 use Rattle.settling.specs.Scratch.{sumOfWord}
-use Rattle.settling.proofs.ScratchLaws.{sum-of-start, sum-of-turn, sum-of-end}
+use Rattle.settling.proofs.ScratchLaws.{wordLeft, sum-of-start, sum-of-turn, sum-of-end}
 use Rattle.settling.proofs.scratch.sum_words.Statement.{statement}
 use Rattle.settling.proofs.scratch.sum_words.Tie as tie
 
 abbrev Inv-loop : tie.InvT-loop
-Inv-loop rows n k sum₀ i₀ sum i = (i ≤ n) × (sum + sumOfWord k (n - i) (drop (8 * i) rows) ≡ sumOfWord k n rows)
+Inv-loop rows n k sum₀ i₀ sum i = (i ≤ n) × (sum + sumOf (λ w. w) (wordLeft k n rows i) ≡ sumOfWord k n rows)
 
 abbrev μ-loop : tie.MeasureT-loop
 μ-loop rows n k sum₀ i₀ sum i = n - i
