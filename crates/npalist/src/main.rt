@@ -25,26 +25,32 @@ const RESULT_BYTES: usize = 64 + 64 * 512;
 
 const LINES_BYTES: usize = 512 * 210 + 110;
 
+// How many bytes came of a length, and of the block that is due behind it.
+struct Came {
+    head: usize,
+    block: usize,
+}
+
 // What came from the stream and what it comes to: the end of the bytes to print, and whether the listing goes on.
 struct Step {
-    came: usize,
+    came: Came,
     end: usize,
     on: bool,
 }
 
-// Reads a length and the block that is due behind it, and no byte more; answers how many bytes came before the stream ended.
-fn read_next(number: u64, stream: &mut [u8]) -> usize
+// Reads a length and the block that is due behind it, none behind a length cut short, and no byte more.
+// Which bytes stand in the stream's buffer after it is not stated: the kit says of a read how many bytes come at most.
+fn read_next(number: u64, stream: &mut [u8]) -> Came
     requires { ⌜ length (now stream) ≡ 4 + 49152 ⌝ }
-    ensures { λ r. ⌜ r ≤ 4 + bytesDue number (take 4 (now (stream .exit))) ⌝ }
-    ensures { λ r. ⌜ r ≤ 4 + 49152 ⌝ }
+    ensures { λ r. ⌜ r .head ≤ 4 ⌝ }
+    ensures { λ r. ⌜ r .block ≤ bytesDue number (take (r .head) (now (stream .exit))) ⌝ }
+    ensures { λ r. ⌜ r .block ≤ 49152 ⌝ }
 {
-    let came = io::read_full(STDIN_FILENO, &mut stream[..LENGTH_BYTES]);
-    if came < LENGTH_BYTES {
-        return came;
-    }
-    let due = bytes_due(number, &stream[..LENGTH_BYTES]);
+    let head = io::read_full(STDIN_FILENO, &mut stream[..LENGTH_BYTES]);
+    let due = bytes_due(number, &stream[..head]);
     let end = LENGTH_BYTES + due;
-    LENGTH_BYTES + io::read_full(STDIN_FILENO, &mut stream[LENGTH_BYTES..end])
+    let block = io::read_full(STDIN_FILENO, &mut stream[LENGTH_BYTES..end]);
+    Came { head, block }
 }
 
 // Reads what comes next, and does what it asks for.
@@ -59,15 +65,17 @@ fn next_step(
     requires { ⌜ length (now ledger) ≡ 64 + 32 * 512 ⌝ }
     requires { ⌜ length (now result) ≡ 64 + 64 * 512 ⌝ }
     requires { ⌜ blockRoom ≤ length (now out) ⌝ }
-    ensures { λ r. ⌜ now (ledger .exit) ≡ listed number (now (ledger .entry)) (nextBlock (mostBytes number) (take (r .came) (now (stream .exit)))) .ledger ⌝ }
-    ensures { λ r. ⌜ now (out .exit) ≡ placedAt 0 (listed number (now (ledger .entry)) (nextBlock (mostBytes number) (take (r .came) (now (stream .exit)))) .printed) (now (out .entry)) ⌝ }
-    ensures { λ r. ⌜ r .end ≡ length (listed number (now (ledger .entry)) (nextBlock (mostBytes number) (take (r .came) (now (stream .exit)))) .printed) ⌝ }
-    ensures { λ r. ⌜ r .on ≡ listed number (now (ledger .entry)) (nextBlock (mostBytes number) (take (r .came) (now (stream .exit)))) .on ⌝ }
-    ensures { λ r. ⌜ r .came ≤ 4 + bytesDue number (take 4 (now (stream .exit))) ⌝ }
+    ensures { λ r. ⌜ now (ledger .exit) ≡ listed number (now (ledger .entry)) (nextBlock (mostBytes number) (take (r .came .head + r .came .block) (now (stream .exit)))) .ledger ⌝ }
+    ensures { λ r. ⌜ now (out .exit) ≡ placedAt 0 (listed number (now (ledger .entry)) (nextBlock (mostBytes number) (take (r .came .head + r .came .block) (now (stream .exit)))) .printed) (now (out .entry)) ⌝ }
+    ensures { λ r. ⌜ r .end ≡ length (listed number (now (ledger .entry)) (nextBlock (mostBytes number) (take (r .came .head + r .came .block) (now (stream .exit)))) .printed) ⌝ }
+    ensures { λ r. ⌜ r .on ≡ listed number (now (ledger .entry)) (nextBlock (mostBytes number) (take (r .came .head + r .came .block) (now (stream .exit)))) .on ⌝ }
+    ensures { λ r. ⌜ r .came .head ≤ 4 ⌝ }
+    ensures { λ r. ⌜ r .came .block ≤ bytesDue number (take (r .came .head) (now (stream .exit))) ⌝ }
     ensures { λ r. ⌜ r .end ≤ blockRoom ⌝ }
 {
     let came = read_next(number, stream);
-    let next = list_next(number, &stream[..came], ledger, result, out);
+    let end = came.head + came.block;
+    let next = list_next(number, &stream[..end], ledger, result, out);
     Step {
         came,
         end: next.end,

@@ -9,6 +9,9 @@ use Rattle.npalist.proofs.next_step.Tie as tie
 read-next-requires : tie.Need-read-next-requires
 read-next-requires c κs = search needs
 
+add-end : tie.Need-add-end
+add-end c = search needs
+
 slice-reshare-prefix-list-next : tie.Need-slice-reshare-prefix-list-next
 slice-reshare-prefix-list-next c = search needs
 
@@ -33,15 +36,16 @@ same-length-4 c = search needs
 returns : tie.Need-returns
 returns c =
     let list = c .before .before .before .before .before .before in
-    let read = list .before .before .before .before .before .before .before in
+    let read = list .before .before .before .before .before .before .before .before in
     let says = list .list-next .ensures in
-    (says .0, (says .1 .0, (says .1 .1 .0, (says .1 .1 .1 .0, (read .read-next .ensures .0, omega arith)))))
+    (says .0, (says .1 .0, (says .1 .1 .0, (says .1 .1 .1 .0, (read .read-next .ensures .0, (read .read-next .ensures .1 .0, omega arith))))))
 
 pub next-step-spec : {M : Type 1} → statement M
 next-step-spec =
     tie.close
     (tie.spec
     read-next-requires
+    add-end
     slice-reshare-prefix-list-next
     slice-aggregate-list-next
     list-next-requires
