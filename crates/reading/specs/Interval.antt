@@ -141,6 +141,10 @@ rowAt b points = record {
 unfoldable pub pointsFrom : List ℕ → ℕ → List ℕ
 pointsFrom f first = drop (headerOf f .pointsOffset + pointBytes * first) f
 
+-- the byte of the file f at which the points begin of the row at the front of b; for a row without points, whose word 12 is free, the file's end
+unfoldable pub curveAt : List ℕ → List ℕ → ℕ
+curveAt f b = cond (eqb (word32 b 13) 0) (length f) (headerOf f .pointsOffset + pointBytes * word32 b 12)
+
 -- the row of the file f that begins at the front of b
 unfoldable pub rowOf : List ℕ → List ℕ → Row
 rowOf f b = rowAt b (pointsFrom f (word32 b 12))

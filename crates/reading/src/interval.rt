@@ -13,7 +13,7 @@ ghost use lib.Signed.{mag};
 ghost use Rattle.words.specs.Lists.{any};
 ghost use Rattle.words.specs.Words.{word32 as wordOf, signed as signedOf};
 ghost use Rattle.words.specs.Grounds.{answered, beyond as beyondOf, liesFrom, overlap};
-ghost use Rattle.reading.specs.Interval.{rowOf, headerOf, rowAt, rowsOf, pointOf, notAFile, headerOutside, tablesMisplaced, rowOutside, pointOutside, falls as fallsOf, pointsOutside};
+ghost use Rattle.reading.specs.Interval.{curveAt, rowOf, headerOf, rowAt, rowsOf, pointOf, notAFile, headerOutside, tablesMisplaced, rowOutside, pointOutside, falls as fallsOf, pointsOutside};
 
 const HEADER_BYTES: usize = 40;
 
@@ -379,13 +379,14 @@ pub fn scan(file: &[u8]) -> u32
     ground
 }
 
-// Where the points of the row at the front of a part of a file begin; the file's end for a row without points, whose first point is free.
+// Where the points of the row at the front of a part of a file begin. Of a row without points, whose first point is free, that is the file's end.
 pub fn curve_at(file: &[u8], row: &[u8]) -> usize
     requires { ⌜ 40 ≤ length (now file) ⌝ }
     requires { ⌜ 56 ≤ length (now row) ⌝ }
     requires { ⌜ (0 < wordOf (now row) 13 → headerOf (now file) .pointsOffset + 8 * (wordOf (now row) 12 + wordOf (now row) 13) ≤ length (now file)) ⌝ }
     ensures { λ r. ⌜ rowAt (now (row .entry)) (drop r (now (file .entry))) ≡ rowOf (now (file .entry)) (now (row .entry)) ⌝ }
     ensures { λ r. ⌜ r + 8 * wordOf (now (row .entry)) 13 ≤ length (now (file .entry)) ⌝ }
+    ensures { λ r. ⌜ r ≡ curveAt (now (file .entry)) (now (row .entry)) ⌝ }
 {
     if word(row, POINT_COUNT) == 0 {
         return file.len();

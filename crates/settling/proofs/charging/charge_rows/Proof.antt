@@ -112,7 +112,7 @@ part-row-figures-end-2 c = le-refl _
 row-figures-requires : tie.Need-row-figures-requires Inv-loop μ-loop
 row-figures-requires c κs =
     let turn = c .before .before .before .before .before .before .before .before .before in
-    figures-asks (turn .before .loop .inv) (turn .loop-test .taken) _ (c .before .before .curve-at .ensures .0) (c .before .before .curve-at .ensures .1) (c .before .before .before .before .before .before .before .before .before .before .before .before .before .before .before .before .before .before .pre .1 .1 .0)
+    figures-asks (turn .before .loop .inv) (turn .loop-test .taken) _ (c .before .before .curve-at .ensures .0) (c .before .before .curve-at .ensures .1 .0) (c .before .before .before .before .before .before .before .before .before .before .before .before .before .before .before .before .before .before .pre .1 .1 .0)
 
 sub-row-charge : tie.Need-sub-row-charge Inv-loop μ-loop
 sub-row-charge c =
