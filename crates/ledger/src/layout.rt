@@ -2,7 +2,7 @@
 
 use assessment::units::Cents;
 use assessment::units::Kilowatts;
-use words::put64;
+use words::store_words;
 use words::word64;
 ghost use mathlib.Core.Path.{_≡_};
 ghost use mathlib.Core.List.{_∷_, []};
@@ -80,14 +80,17 @@ pub fn write_header(
     requires { ⌜ 64 ≤ length (now ledger) ⌝ }
     ensures { λ _. ⌜ now (ledger .exit) ≡ written (1 ∷ cone ∷ days ∷ earliest ∷ carried .0 ∷ accounts ∷ 8 ∷ 0 ∷ []) (now (ledger .entry)) ⌝ }
 {
-    put64(ledger, 0, LEDGER_FORMAT);
-    put64(ledger, 8, cone);
-    put64(ledger, 16, days);
-    put64(ledger, 24, earliest);
-    put64(ledger, 32, carried.0);
-    put64(ledger, 40, accounts);
-    put64(ledger, 48, ACCOUNTS_OFFSET);
-    put64(ledger, 56, 0);
+    let words = [
+        LEDGER_FORMAT,
+        cone,
+        days,
+        earliest,
+        carried.0,
+        accounts,
+        ACCOUNTS_OFFSET,
+        0,
+    ];
+    store_words(&words, ledger);
 }
 
 // Writes the four words of an account at a byte offset.
@@ -102,8 +105,6 @@ pub fn write_account(
     requires { ⌜ at + 32 ≤ length (now ledger) ⌝ }
     ensures { λ _. ⌜ now (ledger .exit) ≡ writtenAt at (id ∷ largest .0 ∷ charged .0 ∷ credited .0 ∷ []) (now (ledger .entry)) ⌝ }
 {
-    put64(ledger, at, id);
-    put64(ledger, at + 8, largest.0);
-    put64(ledger, at + 16, charged.0);
-    put64(ledger, at + 24, credited.0);
+    let words = [id, largest.0, charged.0, credited.0];
+    store_words(&words, &mut ledger[at..]);
 }

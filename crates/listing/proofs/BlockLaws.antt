@@ -23,7 +23,7 @@ use Rattle.settling.proofs.Accepted.{settling-none}
 use Rattle.listing.specs.Lines.{line, refusedLine}
 use Rattle.listing.specs.Npalist.{rowLines, poolLine, intervalLines, ledgerBuffer, resultBuffer, openingListed, intervalListed}
 use Rattle.listing.specs.Room.{refusedRoom, rowRoom, poolRoom, blockRoom}
-use Rattle.words.proofs.Placing.{place-none, then-place, place-rest}
+use Rattle.words.proofs.Placing.{place-none, then-place, place-rest, place-end}
 
 -- one more byte filled with zero
 pub clear-turn : (i : ℕ) (b₀ b : List ℕ) → i < length b₀ → b ≡ replicate i 0 ++ drop i b₀ → set b i 0 ≡ replicate (i + 1) 0 ++ drop (i + 1) b₀
@@ -84,7 +84,7 @@ module _ (f b : List ℕ) (interval : ℕ) where
       → (out ≡ goal) × (at ≡ end)
   row-end i at end out goal h left stop =
       let none = lines-end i h in (
-        sym (place-none at out) ∙ ap (λ l. placedAt at l out) (sym none) ∙ left,
+        place-end at (linesLeft i) out goal none left,
         omega (arith, ap length none),
       )
 

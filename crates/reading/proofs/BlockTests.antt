@@ -10,7 +10,8 @@ use borrow.Author.Tests.{le-leb, lt-leb, eq-eqb, ne-eqb}
 use Rattle.words.specs.Grounds.{liesFrom}
 use Rattle.words.specs.Words.{numberAt, word32}
 use Rattle.words.proofs.Tests.{lies-inside, lies-below, lies-above, not-leb}
-use Rattle.words.proofs.Access.{entry-at, numberAt-drop}
+use Rattle.words.proofs.Words.{entry-at}
+use Rattle.words.proofs.Access.{numberAt-drop}
 use Rattle.reading.specs.Block.{blockHeaderBytes, mostBlockBytes, mostNetCone, mostIds, idBytes, Terms, blockOf, notABlock, termsOutside, idsMisplaced}
 
 -- ground 1

@@ -1,20 +1,18 @@
--- What is left to post while rows and accounts are walked side by side, and the words of the result.
-use Prim.Native.Nat.{ℕ, zero, suc, _+_, _-_, _*_, _≤_, _<_, _^_}
+-- What is left to post while rows and accounts are walked side by side.
+use Prim.Native.Nat.{ℕ, zero, suc, _+_, _*_, _≤_, _<_, _^_}
 use mathlib.Core.Path.{_≡_, refl, sym, ap, ap₂, _∙_}
-use mathlib.Core.List.{List, [], _∷_, _++_, map, append-nil}
+use mathlib.Core.List.{List, [], _∷_, _++_, map}
 use mathlib.Core.Bool.{Bool, true, false, _&&_}
 use native.Mathlib.Omega.{arith}
 use borrow.Author.Tests.{lt-ltb, le-ltb, ltb-true, ltb-false}
 use borrow.Rule.Slice.PartAt.{part-to-end}
-use borrow.Rule.Slice.PartMut.{putMid}
-use lib.ListN.{length, take, drop, getD, length-drop, drop-of-length-le, List·getD-append}
+use lib.ListN.{length, drop, getD, List·getD-append}
 use lib.Seq.{drop-drop, getD-drop}
 use lib.Dec.{ltb, eqb}
 use Rattle.words.specs.Lists.{any}
-use Rattle.words.specs.Words.{word32, entries, written, writtenAt}
+use Rattle.words.specs.Words.{word32, entries, writtenAt}
 use Rattle.words.proofs.Tests.{first-holds, second-holds, not-first, not-second}
-use Rattle.words.proofs.ReadBack.{beyond-kept}
-use Rattle.words.proofs.Access.{write-more, write-none, written-at-zero, length-writtenAt}
+use Rattle.words.proofs.Access.{write-more, write-none, length-writtenAt, beyond-kept}
 use Rattle.reading.specs.Interval.{rowBytes, Row, headerOf, rowAt, rowOf, rowsOf}
 use Rattle.reading.proofs.Bounds.{terms-in}
 use Rattle.reading.proofs.Walk.{rowPart, rowsLeft, rows-start, rows-turn, rows-end}
@@ -52,20 +50,6 @@ meets-row f i id r e taken =
     let own = eqb (rowAt (rowPart f i) [] .id) id in
     let both = sym e ∙ taken in
     (ltb-true i (headerOf f .rowCount) (first-holds there own both), second-holds there own both)
-
--- eight words, and rows behind them
-pub result-written : (b x y rows : List ℕ) (v₁ v₂ v₃ v₄ v₅ v₆ v₇ v₈ : ℕ) → 64 ≤ length b → x ≡ written (v₁ ∷ v₂ ∷ v₃ ∷ v₄ ∷ v₅ ∷ v₆ ∷ v₇ ∷ v₈ ∷ []) b
-    → y ≡ written rows (take (length x - 64) (drop 64 x))
-    → putMid 64 (length x - 64) x y ≡ written (v₁ ∷ v₂ ∷ v₃ ∷ v₄ ∷ v₅ ∷ v₆ ∷ v₇ ∷ v₈ ∷ rows) b
-result-written b x y rows v₁ v₂ v₃ v₄ v₅ v₆ v₇ v₈ room header tail =
-    let behind : take 64 x ++ written rows (drop 64 x) ≡ writtenAt 64 rows x = unfold writtenAt in refl in
-    let eight : List ℕ = v₁ ∷ v₂ ∷ v₃ ∷ v₄ ∷ v₅ ∷ v₆ ∷ v₇ ∷ v₈ ∷ [] in
-    let n = length-drop 64 x in
-    let end : length (drop 64 x) ≤ length x - 64 = omega (arith, n) in
-    let none : drop (length x - 64) (drop 64 x) ≡ [] = drop-of-length-le (drop 64 x) end in
-    let rest : y ++ drop (length x - 64) (drop 64 x) ≡ written rows (drop 64 x)
-    = ap (λ l. y ++ l) none ∙ append-nil y ∙ tail ∙ ap (written rows) (part-to-end x 64) in
-    ap (λ l. take 64 x ++ l) rest ∙ behind ∙ ap (writtenAt 64 rows) (header ∙ sym (written-at-zero eight b)) ∙ write-more 0 eight rows b room ∙ written-at-zero (eight ++ rows) b
 
 -- raising reads an account's largest commitment alone
 pub raised-written : (b x part : List ℕ) (at id largest charged credited cents share kw : ℕ)

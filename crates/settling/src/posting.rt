@@ -18,7 +18,6 @@ use reading::interval::ROW_BYTES;
 use reading::interval::ROWS;
 use reading::interval::ROWS_OFFSET;
 use reading::interval::word;
-use words::put64;
 use words::store_words;
 ghost use mathlib.Core.Path.{_≡_};
 ghost use mathlib.Core.Bool.{_&&_};
@@ -114,13 +113,16 @@ pub fn write_result(
     requires { ⌜ 64 + 8 * length (now rows) ≤ length (now result) ⌝ }
     ensures { λ _. ⌜ now (result .exit) ≡ written (ratio ∷ charges .0 ∷ credits .0 ∷ carried .0 ∷ bonus .0 ∷ numerator .0 ∷ denominator .0 ∷ count ∷ now (rows .entry)) (now (result .entry)) ⌝ }
 {
-    put64(result, 0, ratio);
-    put64(result, 8, charges.0);
-    put64(result, 16, credits.0);
-    put64(result, 24, carried.0);
-    put64(result, 32, bonus.0);
-    put64(result, 40, numerator.0);
-    put64(result, 48, denominator.0);
-    put64(result, 56, count);
+    let words = [
+        ratio,
+        charges.0,
+        credits.0,
+        carried.0,
+        bonus.0,
+        numerator.0,
+        denominator.0,
+        count,
+    ];
+    store_words(&words, result);
     store_words(rows, &mut result[64..]);
 }

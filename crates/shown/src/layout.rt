@@ -1,29 +1,16 @@
 // Words of a file as bytes.
 
+use words::put32;
 ghost use mathlib.Core.Path.{_≡_};
 ghost use Prim.Native.Nat.{_+_, _*_, _≤_};
 ghost use lib.ListN.{length};
-ghost use Rattle.words.specs.Words.{bytesOf, bytesOfWords, placedAt};
+ghost use Rattle.words.specs.Words.{bytesOfWords, placedAt};
 
 // The words of a row: id, kind, committed, owned, metered, adjustment, planned, forced, maximum, minimum, online, LMP, first point, points.
 pub type Row = [u64; 14];
 
 // The words of a header: format, interval, Net CONE, days, region-wide, imports, rows, their offset, points, their offset.
 pub type Header = [u64; 10];
-
-// Writes a word of 32 bits.
-fn put_word(out: &mut [u8], at: usize, w: u64)
-    requires { ⌜ at + 4 ≤ length (now out) ⌝ }
-    ensures { λ _. ⌜ now (out .exit) ≡ placedAt at (bytesOf 4 w) (now (out .entry)) ⌝ }
-{
-    let w1 = w / 256;
-    let w2 = w1 / 256;
-    let w3 = w2 / 256;
-    out[at] = (w % 256) as u8;
-    out[at + 1] = (w1 % 256) as u8;
-    out[at + 2] = (w2 % 256) as u8;
-    out[at + 3] = (w3 % 256) as u8;
-}
 
 // Writes words one behind the other.
 pub fn put_words(out: &mut [u8], at: usize, words: &[u64])
@@ -32,7 +19,7 @@ pub fn put_words(out: &mut [u8], at: usize, words: &[u64])
 {
     let mut i = 0;
     while i < words.len() {
-        put_word(out, at + 4 * i, words[i]);
+        put32(out, at + 4 * i, words[i]);
         i += 1;
     }
 }

@@ -1,15 +1,17 @@
 -- Laws between the definitions of words and the code that reads and writes them, over the width and the place.
-use Prim.Native.Nat.{ℕ, zero, suc, _+_, _*_, _^_, _≤_, _<_}
+use Prim.Native.Nat.{ℕ, zero, suc, _+_, _-_, _*_, _/_, _%_, _^_, _≤_}
 use mathlib.Core.Path.{_≡_, refl, sym, ap, ap₂, _∙_}
 use mathlib.Core.List.{List, [], _∷_, _++_, append-assoc, append-nil}
-use native.Mathlib.Nat.{add-suc, suc-add, add-zero, zero-add, pow-succ', mul-assoc}
+use native.Mathlib.Nat.{add-suc, suc-add, add-zero, zero-add, pow-zero, pow-succ', mul-assoc, div-one, div-div-eq-div-mul}
 use native.Mathlib.Numerals.{add-one}
 use native.Mathlib.Omega.{arith}
+use borrow.Rule.Slice.PartAt.{part-to-end}
+use borrow.Rule.Slice.PartMut.{putMid}
 use lib.ListN.{length, take, drop, getD, length-append, length-drop, drop-of-length-le}
-use lib.Seq.{drop-drop, sets, length-take-le, drop-cons}
-use Rattle.words.specs.Words.{number, bytesOf, numberAt, entries, bytesOfWords, placedAt, written, writtenAt}
-use Rattle.words.proofs.Words.{length-bytesOfWords, length-written}
-use Rattle.words.proofs.Placing.{place-none, place-more, stored}
+use lib.Seq.{drop-drop, drop-at, length-take-le}
+use Rattle.words.specs.Words.{number, bytesOf, numberAt, bytesOfWords, placedAt, written, writtenAt}
+use Rattle.words.proofs.Words.{length-bytesOf, length-bytesOfWords, length-written, beyond-written}
+use Rattle.words.proofs.Placing.{place-none, place-more, place-rest}
 
 -- no bytes hold 0
 number-nil : (n : ℕ) → number n [] ≡ 0
@@ -60,10 +62,13 @@ pub numberAt-drop : (n p : ℕ) (b : List ℕ) (at : ℕ) → numberAt n (drop p
 unfolding numberAt
 numberAt-drop n p b at = ap (number n) (drop-drop at p b)
 
--- one word is the bytes of it
-pub one-word : (n v : ℕ) → bytesOfWords n (v ∷ []) ≡ bytesOf n v
-unfolding bytesOfWords
-one-word n v = append-nil (bytesOf n v)
+-- a number's m + n bytes are its m lowest and n of the rest
+pub split-bytes : (m n v : ℕ) → bytesOf (m + n) v ≡ bytesOf m v ++ bytesOf n (v / 256 ^ m)
+unfolding bytesOf
+split-bytes zero n v = rw (zero-add n, pow-zero 256, div-one v)
+split-bytes (suc m) n v =
+    ap (λ k. bytesOf k v) (suc-add m n)
+    ∙ ap (λ rest. v % 256 ∷ rest) (split-bytes m n (v / 256) ∙ ap (λ q. bytesOf m (v / 256) ++ bytesOf n q) (div-div-eq-div-mul v 256 (256 ^ m) ∙ ap (λ k. v / k) (sym (pow-succ' 256 m))))
 
 -- words written at a place are their bytes placed there
 pub written-placed : (at : ℕ) (ws b : List ℕ) → writtenAt at ws b ≡ placedAt at (bytesOfWords 8 ws) b
@@ -73,9 +78,24 @@ written-placed at ws b =
     ap (λ rest. take at b ++ (new ++ rest)) (drop-drop (8 * length ws) at b ∙ ap (λ k. drop (at + k) b) (sym (length-bytesOfWords 8 ws)))
     ∙ sym (append-assoc (take at b) new (drop (at + length new) b))
 
--- bytes stored one after the other are a word that has been written
-pub stored-word : (b : List ℕ) (at v : ℕ) → at + 8 ≤ length b → sets b at (bytesOf 8 v) ≡ writtenAt at (v ∷ []) b
-stored-word b at v h = stored 8 at v b h ∙ ap (λ bs. placedAt at bs b) (sym (one-word 8 v)) ∙ sym (written-placed at (v ∷ []) b)
+-- words written at the front are their bytes placed there
+pub front-placed : (ws b : List ℕ) → written ws b ≡ placedAt 0 (bytesOfWords 8 ws) b
+unfolding writtenAt
+front-placed ws b = written-placed 0 ws b
+
+-- one word written at a place is its bytes placed there
+pub word-placed : (at v : ℕ) (b : List ℕ) → writtenAt at (v ∷ []) b ≡ placedAt at (bytesOf 8 v) b
+unfolding bytesOfWords
+word-placed at v b = written-placed at (v ∷ []) b ∙ ap (λ bs. placedAt at bs b) (append-nil (bytesOf 8 v))
+
+-- a word's lower half placed, and its upper half behind it, are the word written
+pub halves-placed : (at v : ℕ) (b x y : List ℕ) → at + 8 ≤ length b → x ≡ placedAt at (bytesOf 4 v) b → y ≡ placedAt (at + 4) (bytesOf 4 (v / 4294967296)) x
+    → y ≡ writtenAt at (v ∷ []) b
+halves-placed at v b x y room low high =
+    let four = length-bytesOf 4 v in
+    high
+    ∙ place-rest at (bytesOf 4 v) (bytesOf 4 (v / 4294967296)) b x (writtenAt at (v ∷ []) b) (at + 4) (omega (arith, four)) low (omega (arith, four))
+    (ap (λ bs. placedAt at bs b) (sym (split-bytes 4 4 v)) ∙ sym (word-placed at v b))
 
 -- words of two lists, one list after the other
 pub words-append : (n : ℕ) (ws vs : List ℕ) → bytesOfWords n (ws ++ vs) ≡ bytesOfWords n ws ++ bytesOfWords n vs
@@ -100,10 +120,6 @@ write-more at ws vs b h =
     ∙ ap (λ bs. placedAt at bs b) (sym (words-append 8 ws vs))
     ∙ sym (written-placed at (ws ++ vs) b)
 
--- writing the first of some words, and then the others
-pub write-next : (at v : ℕ) (ws b : List ℕ) → at + 8 ≤ length b → writtenAt (at + 8) ws (writtenAt at (v ∷ []) b) ≡ writtenAt at (v ∷ ws) b
-write-next at v ws b h = write-more at (v ∷ []) ws b h
-
 -- writing at a place where there is room keeps the length
 pub length-writtenAt : (at : ℕ) (ws b : List ℕ) → at + 8 * length ws ≤ length b → length (writtenAt at ws b) ≡ length b
 unfolding writtenAt
@@ -111,50 +127,26 @@ length-writtenAt at ws b h =
     let n = length-drop at b in
     omega (arith, length-append (take at b) (written ws (drop at b)), length-take-le at b (omega arith), length-written ws (drop at b) (omega arith), n)
 
--- one turn of writing a list, word by word
-pub store-turn : (s b b′ goal : List ℕ) (i : ℕ) → writtenAt (8 * i) (drop i s) b ≡ goal → b′ ≡ writtenAt (8 * i) (getD s i 0 ∷ []) b → i < length s → 8 * i + 8 ≤ length b
-    → writtenAt (8 * (i + 1)) (drop (i + 1) s) b′ ≡ goal
-store-turn s b b′ goal i left put h room =
-    let next : 8 * (i + 1) ≡ 8 * i + 8 = omega arith in
-    rw (next, add-one, put) (write-next (8 * i) (getD s i 0) (drop (suc i) s) b room ∙ ap (λ ws. writtenAt (8 * i) ws b) (sym (drop-cons s i 0 h)) ∙ left)
-
--- where all words are written, nothing is left
-pub store-all : (s b goal : List ℕ) (i : ℕ) → writtenAt (8 * i) (drop i s) b ≡ goal → length s ≤ i → b ≡ goal
-store-all s b goal i left h = sym (write-none (8 * i) b) ∙ ap (λ ws. writtenAt (8 * i) ws b) (sym (drop-of-length-le s h)) ∙ left
-
--- an entry of a table
-pub entry-at : {A : Type 0} (size : ℕ) (read : List ℕ → A) (n : ℕ) (b : List ℕ) (i : ℕ) (d : A) → i < n → getD (entries size read n b) i d ≡ read (drop (size * i) b)
-unfolding entries
-entry-at size read zero b i d h = absurd (omega arith)
-entry-at size read (suc n) b zero d h = let front : size * 0 ≡ 0 = omega arith in rw front
-entry-at size read (suc n) b (suc i) d h =
-    let next : size + size * i ≡ size * suc i = omega arith in
-    entry-at size read n (drop size b) i d (omega arith) ∙ ap read (drop-drop (size * i) size b ∙ ap (λ k. drop k b) next)
-
--- one word more behind words that have just been written
-pub then-word : (at : ℕ) (ws b x y : List ℕ) (v : ℕ) → at + 8 * length ws ≤ length b → x ≡ writtenAt at ws b → y ≡ writtenAt (at + 8 * length ws) (v ∷ []) x
-    → y ≡ writtenAt at (ws ++ (v ∷ [])) b
-then-word at ws b x y v h before put = put ∙ ap (writtenAt (at + 8 * length ws) (v ∷ [])) before ∙ write-more at ws (v ∷ []) b h
-
--- four words, one after the other
-pub four-words : (at : ℕ) (b x₁ x₂ x₃ x₄ : List ℕ) (v₁ v₂ v₃ v₄ : ℕ) → at + 32 ≤ length b
-    → x₁ ≡ writtenAt at (v₁ ∷ []) b → x₂ ≡ writtenAt (at + 8) (v₂ ∷ []) x₁ → x₃ ≡ writtenAt (at + 16) (v₃ ∷ []) x₂ → x₄ ≡ writtenAt (at + 24) (v₄ ∷ []) x₃
-    → x₄ ≡ writtenAt at (v₁ ∷ v₂ ∷ v₃ ∷ v₄ ∷ []) b
-four-words at b x₁ x₂ x₃ x₄ v₁ v₂ v₃ v₄ h e₁ e₂ e₃ e₄ =
-    let f₂ = then-word at (v₁ ∷ []) b x₁ x₂ v₂ (omega arith) e₁ e₂ in
-    let f₃ = then-word at (v₁ ∷ v₂ ∷ []) b x₂ x₃ v₃ (omega arith) f₂ e₃ in
-    then-word at (v₁ ∷ v₂ ∷ v₃ ∷ []) b x₃ x₄ v₄ (omega arith) f₃ e₄
-
--- a written buffer is one written at 0
-pub written-at-zero : (ws b : List ℕ) → writtenAt 0 ws b ≡ written ws b
+-- the bytes beyond words that have been written at a place are as they were
+pub beyond-kept : (at : ℕ) (ws b : List ℕ) → at + 8 * length ws ≤ length b → drop (at + 8 * length ws) (writtenAt at ws b) ≡ drop (at + 8 * length ws) b
 unfolding writtenAt
-written-at-zero ws b = refl
+beyond-kept at ws b room =
+    sym (drop-drop (8 * length ws) at (take at b ++ written ws (drop at b)))
+    ∙ ap (drop (8 * length ws)) (drop-at (take at b) (written ws (drop at b)) at (length-take-le at b (omega arith)))
+    ∙ beyond-written ws (drop at b)
+    ∙ drop-drop (8 * length ws) at b
 
--- eight words at the front, four by four
-pub eight-words : (b x y : List ℕ) (v₁ v₂ v₃ v₄ v₅ v₆ v₇ v₈ : ℕ) → 64 ≤ length b → x ≡ writtenAt 0 (v₁ ∷ v₂ ∷ v₃ ∷ v₄ ∷ []) b
-    → y ≡ writtenAt 32 (v₅ ∷ v₆ ∷ v₇ ∷ v₈ ∷ []) x → y ≡ written (v₁ ∷ v₂ ∷ v₃ ∷ v₄ ∷ v₅ ∷ v₆ ∷ v₇ ∷ v₈ ∷ []) b
-eight-words b x y v₁ v₂ v₃ v₄ v₅ v₆ v₇ v₈ h low high =
-    high
-    ∙ ap (writtenAt 32 (v₅ ∷ v₆ ∷ v₇ ∷ v₈ ∷ [])) low
-    ∙ write-more 0 (v₁ ∷ v₂ ∷ v₃ ∷ v₄ ∷ []) (v₅ ∷ v₆ ∷ v₇ ∷ v₈ ∷ []) b (omega arith)
-    ∙ written-at-zero (v₁ ∷ v₂ ∷ v₃ ∷ v₄ ∷ v₅ ∷ v₆ ∷ v₇ ∷ v₈ ∷ []) b
+-- words written behind words at the front are written there with them
+pub written-behind : (ws vs b x y : List ℕ) → 8 * length ws ≤ length b → x ≡ written ws b → y ≡ writtenAt (8 * length ws) vs x → y ≡ written (ws ++ vs) b
+unfolding writtenAt
+written-behind ws vs b x y room front behind =
+    let more = write-more 0 ws vs b in
+    behind ∙ ap (writtenAt (8 * length ws) vs) front ∙ (rw zero-add at more) room
+
+-- a buffer whose part from a place on was lent, and had words written at its front, has them at the place
+pub part-written : (at : ℕ) (ws b part : List ℕ) → part ≡ written ws (take (length b - at) (drop at b)) → putMid at (length b - at) b part ≡ writtenAt at ws b
+unfolding writtenAt
+part-written at ws b part put =
+    let end : length (drop at b) ≤ length b - at = omega (arith, length-drop at b) in
+    let none : drop (length b - at) (drop at b) ≡ [] = drop-of-length-le (drop at b) end in
+    ap (λ l. take at b ++ l) (ap (λ l. part ++ l) none ∙ append-nil part ∙ put ∙ ap (written ws) (part-to-end b at))

@@ -17,6 +17,7 @@ unfolding any answered
 none-applies [] n e = refl
 none-applies (g ∷ gs) n e = by (g .0) e (none-applies gs (not-second (eqb (g .1) 0) (any (λ g. eqb (g .1) 0) gs) n))
   where
+    -- the first ground's number is above 0
     numbered : 0 < g .1
     numbered = omega (arith, eqb-false (g .1) 0 (not-first (eqb (g .1) 0) (any (λ g. eqb (g .1) 0) gs) n))
 

@@ -38,7 +38,7 @@ diff (pos a) (negsuc b) e = refl
 diff (negsuc a) (pos b) e = never e
 diff (negsuc a) (negsuc b) e = sub-pos (suc b) (suc a) (omega (arith, leb-true a b e)) ∙ ap pos (omega arith)
 
--- the same as a natural number
+-- where b is at or below a, the size of a less b is the gap between them
 pub natAbs-diff : (a b : ℤ) → leZ b a ≡ true → natAbs (a -ℤ b) ≡ gapOf a b
 natAbs-diff a b e = ap natAbs (diff a b e)
 
@@ -49,7 +49,7 @@ gap-le (pos a) (negsuc b) = omega arith
 gap-le (negsuc a) (pos b) = omega arith
 gap-le (negsuc a) (negsuc b) = omega arith
 
--- with p at or below l and q above it
+-- where p is at or below l and q above l, the gap from p to l is below that from p to q
 pub gap-lt : (p l q : ℤ) → leZ p l ≡ true → leZ q l ≡ false → gapOf l p < gapOf q p
 gap-lt (pos p) (pos l) (pos q) e f = omega (arith, leb-true, leb-false)
 gap-lt (pos p) (pos l) (negsuc q) e f = never (sym f)
@@ -81,7 +81,7 @@ le-over (negsuc p) (negsuc l) (negsuc q) e f = le-leb q p (omega (arith, leb-tru
 pub less-2^32 : (x : ℕ) → x < 4294967296 → pos x -ℤ pos 4294967296 ≡ negsuc (4294967296 - suc x)
 less-2^32 x h = rw (lt-ltb x 4294967296 h)
 
--- a sum's size
+-- of two natural numbers, one less the other has at most the size of their sum
 mag-cond : (t : Bool) (a b : ℕ) → mag (cond t (negsuc (b - suc a)) (pos (a - b))) ≤ a + b
 mag-cond true a b = omega arith
 mag-cond false a b = omega arith

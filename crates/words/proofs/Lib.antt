@@ -6,5 +6,4 @@ pub mod Words
 pub mod Grounds
 pub mod Placing
 pub mod Access
-pub mod ReadBack
 pub mod Ints

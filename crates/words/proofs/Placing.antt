@@ -1,6 +1,6 @@
 -- The laws of bytes placed in a buffer: none, one, some behind others, a text, and words of any width.
-use Prim.Native.Nat.{ℕ, suc, _+_, _*_, _≤_, _<_}
-use mathlib.Core.Path.{_≡_, sym, ap, ap₂, _∙_}
+use Prim.Native.Nat.{ℕ, suc, _+_, _≤_, _<_}
+use mathlib.Core.Path.{_≡_, refl, sym, ap, ap₂, _∙_}
 use mathlib.Core.List.{List, [], _∷_, _++_, append-assoc, append-nil}
 use native.Mathlib.Numerals.{add-one}
 use native.Mathlib.Nat.{add-zero}
@@ -58,20 +58,6 @@ place-last at i d xs b e h =
     ∙ sym (append-snoc (take at b ++ xs) d (drop (suc i) b))
     ∙ ap₂ (λ p k. p ++ drop k b) (append-assoc (take at b) xs (d ∷ [])) far
 
--- one turn of copying a text, byte by byte
-pub copy-turn : (at i : ℕ) (s b goal : List ℕ) → placedAt (at + i) (drop i s) b ≡ goal → i < length s → at + i < length b
-    → placedAt (at + (i + 1)) (drop (i + 1) s) (set b (at + i) (getD s i 0)) ≡ goal
-copy-turn at i s b goal left more room =
-    let x = getD s i 0 in
-    let next : at + suc i ≡ at + i + 1 = omega arith in
-    rw add-one
-    (place-rest (at + i) (x ∷ []) (drop (suc i) s) b (set b (at + i) x) goal (at + suc i) (omega arith) (place-byte (at + i) x b room) next
-    (ap (λ l. placedAt (at + i) l b) (sym (drop-cons s i 0 more)) ∙ left))
-
--- where all of it is copied, nothing is left
-pub copy-all : (at i : ℕ) (s b goal : List ℕ) → placedAt (at + i) (drop i s) b ≡ goal → length s ≤ i → b ≡ goal
-copy-all at i s b goal left h = sym (place-none (at + i) b) ∙ ap (λ l. placedAt (at + i) l b) (sym (drop-of-length-le s h)) ∙ left
-
 -- three writers one after the other
 pub three-placed : (at : ℕ) (xs ys zs b x y z : List ℕ) (k m n : ℕ) → at + length xs + length ys ≤ length b → length x ≡ length b
     → x ≡ placedAt at xs b → k ≡ at + length xs → y ≡ placedAt k ys x → m ≡ k + length ys → z ≡ placedAt m zs y → n ≡ m + length zs
@@ -85,21 +71,37 @@ pub stored : (n at w : ℕ) (b : List ℕ) → at + n ≤ length b → sets b at
 unfolding placedAt
 stored n at w b h = sets-eq (bytesOf n w) b at (omega (arith, length-bytesOf n w))
 
--- one turn of writing words of n bytes: those from the next on are left
-pub words-turn : (n at i : ℕ) (ws b x goal : List ℕ) → placedAt (at + n * i) (bytesOfWords n (drop i ws)) b ≡ goal → i < length ws → at + n * i + n ≤ length b
-    → x ≡ placedAt (at + n * i) (bytesOf n (getD ws i 0)) b → placedAt (at + n * (i + 1)) (bytesOfWords n (drop (i + 1) ws)) x ≡ goal
+-- where nothing is left to place, all is placed
+pub place-end : (at : ℕ) (rest b goal : List ℕ) → rest ≡ [] → placedAt at rest b ≡ goal → b ≡ goal
+place-end at rest b goal none left = sym (place-none at b) ∙ ap (λ l. placedAt at l b) (sym none) ∙ left
+
+-- one turn of writing a list, member by member: the bytes of those from the next on are left
+pub place-turn : {A : Type 0} (write : List A → List ℕ) (one : A → List ℕ) → ((x : A) (xs : List A) → write (x ∷ xs) ≡ one x ++ write xs)
+    → (at i next : ℕ) (xs : List A) (d : A) (b x goal : List ℕ) → placedAt at (write (drop i xs)) b ≡ goal → i < length xs → at + length (one (getD xs i d)) ≤ length b
+    → x ≡ placedAt at (one (getD xs i d)) b → next ≡ at + length (one (getD xs i d)) → placedAt next (write (drop (i + 1) xs)) x ≡ goal
+place-turn write one first at i next xs d b x goal left more room put behind =
+    let here = ap write (drop-cons xs i d more) ∙ first (getD xs i d) (drop (suc i) xs) in
+    rw add-one (place-rest at (one (getD xs i d)) (write (drop (suc i) xs)) b x goal next room put behind (ap (λ l. placedAt at l b) (sym here) ∙ left))
+
+-- one turn of copying a text, byte by byte
+pub copy-turn : (at i : ℕ) (s b goal : List ℕ) → placedAt (at + i) (drop i s) b ≡ goal → i < length s → at + i < length b
+    → placedAt (at + (i + 1)) (drop (i + 1) s) (set b (at + i) (getD s i 0)) ≡ goal
+copy-turn at i s b goal left more room =
+    place-turn (λ s. s) (λ x. x ∷ []) (λ x xs. refl) (at + i) i (at + (i + 1)) s 0 b _ goal left more (omega arith) (place-byte (at + i) (getD s i 0) b room) (omega arith)
+
+-- where all of it is copied, nothing is left
+pub copy-all : (at i : ℕ) (s b goal : List ℕ) → placedAt (at + i) (drop i s) b ≡ goal → length s ≤ i → b ≡ goal
+copy-all at i s b goal left h = place-end (at + i) (drop i s) b goal (drop-of-length-le s h) left
+
+-- one turn of writing words of n bytes
+pub words-turn : (n at i next : ℕ) (ws b x goal : List ℕ) → placedAt at (bytesOfWords n (drop i ws)) b ≡ goal → i < length ws → at + n ≤ length b
+    → x ≡ placedAt at (bytesOf n (getD ws i 0)) b → next ≡ at + n → placedAt next (bytesOfWords n (drop (i + 1) ws)) x ≡ goal
 unfolding bytesOfWords
-words-turn n at i ws b x goal left more room put =
-    let word = bytesOf n (getD ws i 0) in
+words-turn n at i next ws b x goal left more room put behind =
     let long = length-bytesOf n (getD ws i 0) in
-    let further : n * suc i ≡ n * i + n = omega arith in
-    let next : at + n * suc i ≡ at + n * i + length word = omega (arith, long, further) in
-    rw add-one
-    (place-rest (at + n * i) word (bytesOfWords n (drop (suc i) ws)) b x goal (at + n * suc i) (omega (arith, long)) put next
-    (ap (λ l. placedAt (at + n * i) (bytesOfWords n l) b) (sym (drop-cons ws i 0 more)) ∙ left))
+    place-turn (bytesOfWords n) (bytesOf n) (λ w ws. refl) at i next ws 0 b x goal left more (omega (arith, long)) put (omega (arith, long))
 
 -- where all words are written, nothing is left
-pub words-all : (n at i : ℕ) (ws b goal : List ℕ) → placedAt (at + n * i) (bytesOfWords n (drop i ws)) b ≡ goal → length ws ≤ i → b ≡ goal
+pub words-all : (n at i : ℕ) (ws b goal : List ℕ) → placedAt at (bytesOfWords n (drop i ws)) b ≡ goal → length ws ≤ i → b ≡ goal
 unfolding bytesOfWords
-words-all n at i ws b goal left h =
-    sym (place-none (at + n * i) b) ∙ ap (λ l. placedAt (at + n * i) (bytesOfWords n l) b) (sym (drop-of-length-le ws h)) ∙ left
+words-all n at i ws b goal left h = place-end at (bytesOfWords n (drop i ws)) b goal (ap (bytesOfWords n) (drop-of-length-le ws h)) left

@@ -7,7 +7,7 @@ use lib.Dec.{ltb, leb}
 use borrow.Author.Tests.{ltb-false, leb-false, ltb-true, leb-true, eqb-true, not-false, not-true, lt-ltb, le-ltb}
 use Rattle.words.specs.Grounds.{outside}
 
--- an alternative that fails
+-- where neither of two tests holds, the first fails
 pub not-first : (a b : Bool) → (a || b) ≡ false → a ≡ false
 not-first true b e = absurd (true≢false e)
 not-first false b e = refl
@@ -17,12 +17,12 @@ pub not-second : (a b : Bool) → (a || b) ≡ false → b ≡ false
 not-second true b e = absurd (true≢false e)
 not-second false b e = e
 
--- an alternative that holds
+-- where one of two tests holds, it is the first or the second
 pub either : (a b : Bool) → (a || b) ≡ true → (a ≡ true) ⊎ (b ≡ true)
 either true b e = inl refl
 either false b e = inr e
 
--- both tests hold
+-- where both of two tests hold, the first does
 pub first-holds : (a b : Bool) → (a && b) ≡ true → a ≡ true
 first-holds true b e = refl
 first-holds false b e = absurd (false≢true e)
@@ -40,7 +40,7 @@ pub not-outside : (low high x : ℕ) → outside low high x ≡ false → (low �
 unfolding outside
 not-outside low high x e = (search facts, search facts)
 
--- one that lies in it is not outside, and one below it or above it is
+-- a number that lies in its range is not outside it
 pub lies-inside : (low high x : ℕ) → low ≤ x → x ≤ high → outside low high x ≡ false
 unfolding outside
 lies-inside low high x l h = rw (le-ltb x low l, le-ltb high x h)

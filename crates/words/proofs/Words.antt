@@ -1,6 +1,6 @@
 -- The laws of numbers in bytes and of tables, over the width, the place and the entry.
 use Prim.Native.Nat.{ℕ, zero, suc, _+_, _*_, _/_, _^_, _<_, _≤_}
-use mathlib.Core.Path.{_≡_, refl, ap, ap₂, _∙_}
+use mathlib.Core.Path.{_≡_, refl, sym, ap, ap₂, _∙_}
 use mathlib.Core.Logic.{⊎-elim}
 use mathlib.Core.List.{List, [], _∷_, _++_, append-assoc, List·Memᴰ, List·Memᴰ·head, List·Memᴰ·tail, List·Memᴰ·cases-cons, List·Memᴰ·not-nil}
 use native.Mathlib.Omega.{arith}
@@ -45,6 +45,15 @@ module _ {A : Type 0} (size : ℕ) (read : List ℕ → A) where
   length-entries zero b = refl
   length-entries (suc n) b = ap suc (length-entries n (drop size b))
 
+  -- entry i of a table is read where it begins
+  pub entry-at : (n : ℕ) (b : List ℕ) (i : ℕ) (d : A) → i < n → getD (entries size read n b) i d ≡ read (drop (size * i) b)
+  unfolding entries
+  entry-at zero b i d h = absurd (omega arith)
+  entry-at (suc n) b zero d h = let front : size * 0 ≡ 0 = omega arith in rw front
+  entry-at (suc n) b (suc i) d h =
+      let next : size + size * i ≡ size * suc i = omega arith in
+      entry-at n (drop size b) i d (omega arith) ∙ ap read (drop-drop (size * i) size b ∙ ap (λ k. drop k b) next)
+
   -- what holds of each entry that is read from bytes holds of each member of a table
   pub entries-all : (P : A → Type 0) → ((b : List ℕ) → Bytes b → P (read b)) → (n : ℕ) (b : List ℕ) → Bytes b → (x : A) → List·Memᴰ x (entries size read n b) → P x
   unfolding entries
@@ -80,7 +89,7 @@ pub beyond-written : (ws b : List ℕ) → drop (8 * length ws) (written ws b) �
 unfolding written
 beyond-written ws b = drop-at (bytesOfWords 8 ws) (drop (8 * length ws) b) (8 * length ws) (length-bytesOfWords 8 ws)
 
--- the first of words of n bytes each that have been written, where it fits, and the words after it
+-- the first of words of n bytes each that have been written is read back, where it fits
 pub first-word : (n w : ℕ) (ws rest : List ℕ) → w < 256 ^ n → number n (bytesOfWords n (w ∷ ws) ++ rest) ≡ w
 unfolding bytesOfWords
 first-word n w ws rest h = rw (append-assoc (bytesOf n w) (bytesOfWords n ws) rest) (number-bytesOf n w (bytesOfWords n ws ++ rest) h)
@@ -94,13 +103,7 @@ next-words n w ws rest = rw (append-assoc (bytesOf n w) (bytesOfWords n ws) rest
 pub words-back : (n : ℕ) (ws rest : List ℕ) → ((w : ℕ) → List·Memᴰ w ws → w < 256 ^ n) → entries n (number n) (length ws) (bytesOfWords n ws ++ rest) ≡ ws
 words-back n ws rest = entries-back n (number n) (bytesOfWords n) rest (λ w. w < 256 ^ n) (λ w vs. first-word n w vs rest) (λ w vs. next-words n w vs rest) ws
 
--- and so is each of them by itself
+-- each of them by itself is read back too
 pub word-back : (n : ℕ) (ws rest : List ℕ) (k : ℕ) → ((w : ℕ) → List·Memᴰ w ws → w < 256 ^ n) → k < length ws
     → number n (drop (n * k) (bytesOfWords n ws ++ rest)) ≡ getD ws k 0
-word-back n [] rest k fit h = absurd (omega arith)
-word-back n (w ∷ ws) rest zero fit h =
-    let front : n * 0 ≡ 0 = omega arith in
-    rw front (first-word n w ws rest (fit w (List·Memᴰ·head refl)))
-word-back n (w ∷ ws) rest (suc k) fit h =
-    let next : n * suc k ≡ n + n * k = omega arith in
-    rw (next, ← drop-drop (n * k) n (bytesOfWords n (w ∷ ws) ++ rest), next-words n w ws rest) (word-back n ws rest k (λ v m. fit v (List·Memᴰ·tail m)) (omega arith))
+word-back n ws rest k fit h = sym (entry-at n (number n) (length ws) (bytesOfWords n ws ++ rest) k 0 h) ∙ ap (λ l. getD l k 0) (words-back n ws rest fit)

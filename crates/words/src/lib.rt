@@ -5,7 +5,7 @@ ghost use mathlib.Core.List.{_∷_, []};
 ghost use Prim.Native.Nat.{_+_, _*_, _≤_, _<_, _^_};
 ghost use lib.ListN.{length, getD};
 ghost use lib.Signed.{mag};
-ghost use Rattle.words.specs.Words.{numberAt, signed as signedOf, written, writtenAt};
+ghost use Rattle.words.specs.Words.{bytesOf, numberAt, signed as signedOf, placedAt, written, writtenAt};
 
 fn wide(x: u8) -> u64
     ensures { λ r. ⌜ r ≡ x ⌝ }
@@ -77,26 +77,27 @@ pub fn signed(w: u64) -> i64
     }
 }
 
+// Writes the low 32 bits of a number at a byte offset.
+pub fn put32(b: &mut [u8], at: usize, v: u64)
+    requires { ⌜ at + 4 ≤ length (now b) ⌝ }
+    ensures { λ _. ⌜ now (b .exit) ≡ placedAt at (bytesOf 4 v) (now (b .entry)) ⌝ }
+{
+    let v1 = v / 256;
+    let v2 = v1 / 256;
+    let v3 = v2 / 256;
+    b[at] = (v % 256) as u8;
+    b[at + 1] = (v1 % 256) as u8;
+    b[at + 2] = (v2 % 256) as u8;
+    b[at + 3] = (v3 % 256) as u8;
+}
+
 // Writes one 64-bit word at a byte offset.
 pub fn put64(b: &mut [u8], at: usize, v: u64)
     requires { ⌜ at + 8 ≤ length (now b) ⌝ }
     ensures { λ _. ⌜ now (b .exit) ≡ writtenAt at (v ∷ []) (now (b .entry)) ⌝ }
 {
-    let v1 = v / 256;
-    let v2 = v1 / 256;
-    let v3 = v2 / 256;
-    let v4 = v3 / 256;
-    let v5 = v4 / 256;
-    let v6 = v5 / 256;
-    let v7 = v6 / 256;
-    b[at] = (v % 256) as u8;
-    b[at + 1] = (v1 % 256) as u8;
-    b[at + 2] = (v2 % 256) as u8;
-    b[at + 3] = (v3 % 256) as u8;
-    b[at + 4] = (v4 % 256) as u8;
-    b[at + 5] = (v5 % 256) as u8;
-    b[at + 6] = (v6 % 256) as u8;
-    b[at + 7] = (v7 % 256) as u8;
+    put32(b, at, v);
+    put32(b, at + 4, v / 4294967296);
 }
 
 // Writes all of `s` to the front of `b`.

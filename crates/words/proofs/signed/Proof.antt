@@ -23,6 +23,7 @@ cast-result-2 c = search needs
 is : (c : tie.Else1) → toZ w64 (c .before .args .w) -ℤ pos 4294967296 ≡ negsuc (4294967296 - suc (c .before .args .w))
 is c = rw (toZ-pos w64 (c .before .args .w) (omega arith)) (less-2^32 (c .before .args .w) (omega arith))
 
+-- it fits 64 bits
 small : (c : tie.Else1) → SFits w64 (negsuc (4294967296 - suc (c .before .args .w)))
 small c = record { sfits = omega arith }
 

@@ -13,13 +13,15 @@ use Rattle.ledger.proofs.HeldTests.{oneOutside, ledger-short, layout-re
 use Rattle.ledger.proofs.held.not_a_ledger.Statement.{statement}
 use Rattle.ledger.proofs.held.not_a_ledger.Tie as tie
 
--- the ledger as it came, seen from the third, the sixth and the ninth test
+-- the ledger as it came, seen from the third test
 abbrev from-3 : tie.Else3 → List ℕ
 from-3 c = c .before .before .before .before .before .before .before .before .args .ledger .now
 
+-- the same, seen from the sixth test
 abbrev from-6 : tie.Else6 → List ℕ
 from-6 c = from-3 (c .before .before .before .before)
 
+-- the same, seen from the ninth test
 abbrev from-9 : tie.Else9 → List ℕ
 from-9 c = from-6 (c .before .before .before .before .before .before)
 
@@ -30,22 +32,26 @@ terms-told c =
     ap₂ (λ n d. termsOutside (record { netCone = n; days = d })) (sym (c .before .word2 .ensures)) (sym (c .before .before .word .ensures))
     ∙ sym (c .terms-outside .ensures)
 
--- what is known once a test is passed: the terms, the number of accounts and the room for them, the carried cents, the accounts
+-- past the third test, the terms are in range
 terms-passed : (c : tie.Else3) → TermsIn (ledgerOf (from-3 c) .terms)
 terms-passed c = terms-in _ (terms-told (c .before) ∙ c .if3 .left)
 
+-- past the sixth, there are at most 512 accounts
 count-passed : (c : tie.Else6) → accountCount (from-6 c) ≤ 512
 unfolding accountCount
 count-passed c = omega (arith, c .before .before .before .word3 .ensures, c .before .if5 .left)
 
+-- past the sixth, the buffer has room for them
 room-passed : (c : tie.Else6) → ledgerBytes (accountCount (from-6 c)) ≤ length (from-6 c)
 unfolding ledgerBytes accountCount
 room-passed c = omega (arith, c .before .before .before .word3 .ensures, c .if6 .left)
 
+-- past the ninth, the carried cents are bounded
 carried-passed : (c : tie.Else9) → ledgerOf (from-9 c) .carried ≤ mostCents
 unfolding ledgerOf
 carried-passed c = omega (arith, c .before .word5 .ensures, c .if9 .left)
 
+-- past the tenth, no account is outside its bounds
 accounts-passed : (c : tie.Else10) → oneOutside (from-9 (c .before .before)) (ledgerOf (from-9 (c .before .before)) .accounts) ≡ false
 accounts-passed c = sym (c .before .accounts-outside .ensures) ∙ c .if10 .left
 

@@ -1,52 +1,38 @@
--- `ledger::layout::write_account` meets its contract. Four words, one after the other.
-use native.Mathlib.Omega.{arith}
+-- `ledger::layout::write_account` meets its contract. Four words at the front of the account's part of the ledger.
 use borrow.Author.Needs.{needs}
-use Rattle.words.proofs.Access.{four-words}
+use Rattle.words.proofs.Access.{part-written}
 use Rattle.ledger.proofs.layout.write_account.Statement.{statement}
 use Rattle.ledger.proofs.layout.write_account.Tie as tie
 
-put64-requires : tie.Need-put64-requires
-put64-requires c κs = search needs
+slice-aggregate-store-words : tie.Need-slice-aggregate-store-words
+slice-aggregate-store-words c = search needs
 
-add-put64 : tie.Need-add-put64
-add-put64 c = search needs
+sub-store-words : tie.Need-sub-store-words
+sub-store-words c = search needs
 
-put64-requires-2 : tie.Need-put64-requires-2
-put64-requires-2 c κs = search needs
+part-store-words-start : tie.Need-part-store-words-start
+part-store-words-start c = search needs
 
-add-put64-2 : tie.Need-add-put64-2
-add-put64-2 c = search needs
+part-store-words-end : tie.Need-part-store-words-end
+part-store-words-end c = search needs
 
-put64-requires-3 : tie.Need-put64-requires-3
-put64-requires-3 c κs = search needs
-
-add-put64-3 : tie.Need-add-put64-3
-add-put64-3 c = search needs
-
-put64-requires-4 : tie.Need-put64-requires-4
-put64-requires-4 c κs = search needs
+store-words-requires : tie.Need-store-words-requires
+store-words-requires c κs = search needs
 
 same-length : tie.Need-same-length
 same-length c = search needs
 
 returns : tie.Need-returns
-returns c =
-    let fourth = c .before .before in
-    let third = fourth .before .before .before .before in
-    let second = third .before .before .before .before in
-    let first = second .before .before .before .before in
-    four-words _ _ _ _ _ _ _ _ _ _ (omega arith) (first .put64 .ensures) (second .put642 .ensures) (third .put643 .ensures) (fourth .put644 .ensures)
+returns c = part-written _ _ _ _ (c .before .before .store-words .ensures)
 
 pub write-account-spec : {M : Type 1} → statement M
 write-account-spec =
     tie.close
     (tie.spec
-    put64-requires
-    add-put64
-    put64-requires-2
-    add-put64-2
-    put64-requires-3
-    add-put64-3
-    put64-requires-4
+    slice-aggregate-store-words
+    sub-store-words
+    part-store-words-start
+    part-store-words-end
+    store-words-requires
     same-length
     returns)

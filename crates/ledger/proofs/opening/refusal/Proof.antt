@@ -10,23 +10,26 @@ use Rattle.ledger.proofs.OpeningTests.{opening-0, opening-1, opening-2,
 use Rattle.ledger.proofs.opening.refusal.Statement.{statement}
 use Rattle.ledger.proofs.opening.refusal.Tie as tie
 
--- what is known once each test is passed
+-- past the first test, the bytes are an opening block
 passed-1 : (c : tie.Else1) → notABlock (c .before .before .before .before .args .block .now) ≡ false
 passed-1 c = sym (c .before .not-a-block .ensures) ∙ c .if1 .left
 
+-- past the second, Net CONE and days are in range
 passed-2 : (c : tie.Else2) → termsOutside (blockOf (c .before .before .before .before .before .before .before .before .args .block .now) .terms) ≡ false
 passed-2 c =
     ap₂ (λ n d. termsOutside (record { netCone = n; days = d })) (sym (c .before .before .before .net-cone .ensures)) (sym (c .before .before .days .ensures))
     ∙ sym (c .before .terms-outside .ensures) ∙ c .if2 .left
 
-not-a-block-requires : tie.Need-not-a-block-requires
-not-a-block-requires c κs = search needs
-
+-- past the third, the ids are few and lie in the block
 passed-3 : (c : tie.Else3) → idsMisplaced (c .before .before .before .before .before .before .before .before .before .before .args .block .now) ≡ false
 passed-3 c = sym (c .before .ids-misplaced .ensures) ∙ c .if3 .left
 
+-- past the fourth, the ids are in order
 passed-4 : (c : tie.Else4) → idsOutOfOrder (blockOf (c .before .before .before .before .before .before .before .before .before .before .before .before .args .block .now) .ids) ≡ false
 passed-4 c = sym (c .before .ids-out-of-order .ensures) ∙ c .if4 .left
+
+not-a-block-requires : tie.Need-not-a-block-requires
+not-a-block-requires c κs = search needs
 
 returns : tie.Need-returns
 returns c = sym (opening-1 _ _ (sym (c .before .not-a-block .ensures) ∙ c .if1 .taken))

@@ -20,20 +20,20 @@ abbrev μ-loop : tie.MeasureT-loop
 loop-holds : tie.Need-loop-holds Inv-loop μ-loop
 loop-holds c = (omega arith, rw add-zero refl, refl)
 
-mul-put-word : tie.Need-mul-put-word Inv-loop μ-loop
-mul-put-word c = search needs
+mul-put32 : tie.Need-mul-put32 Inv-loop μ-loop
+mul-put32 c = search needs
 
-add-put-word : tie.Need-add-put-word Inv-loop μ-loop
-add-put-word c = search needs
+add-put32 : tie.Need-add-put32 Inv-loop μ-loop
+add-put32 c = search needs
 
-mul-put-word-2 : tie.Need-mul-put-word-2 Inv-loop μ-loop
-mul-put-word-2 c = search needs
+mul-put32-2 : tie.Need-mul-put32-2 Inv-loop μ-loop
+mul-put32-2 c = search needs
 
-shared-slice-read-put-word : tie.Need-shared-slice-read-put-word Inv-loop μ-loop
-shared-slice-read-put-word c = search needs
+shared-slice-read-put32 : tie.Need-shared-slice-read-put32 Inv-loop μ-loop
+shared-slice-read-put32 c = search needs
 
-put-word-requires : tie.Need-put-word-requires Inv-loop μ-loop
-put-word-requires c κs = search needs
+put32-requires : tie.Need-put32-requires Inv-loop μ-loop
+put32-requires c κs = search needs
 
 add-i : tie.Need-add-i Inv-loop μ-loop
 add-i c = search needs
@@ -42,17 +42,16 @@ loop-less : tie.Need-loop-less Inv-loop μ-loop
 loop-less c = search needs
 
 loop-again : tie.Need-loop-again Inv-loop μ-loop
-loop-again c = (
-  omega arith,
-  words-turn 4 _ _ _ _ _ _ (c .before .before .before .before .before .before .loop .inv .1) (omega arith) (omega arith) (c .before .before .put-word .ensures),
-  omega arith,
-)
+loop-again c =
+    let l = c .before .before .before .before .before .before in
+    let next = l .before .before .before .args .at + 4 * (l .loop .i + 1) in
+    (omega arith, words-turn 4 _ (l .loop .i) next _ _ _ _ (l .loop .inv .1) (omega arith) (omega arith) (c .before .before .put32 .ensures) (omega arith), omega arith)
 
 same-length : tie.Need-same-length Inv-loop μ-loop
 same-length c = search needs
 
 returns : tie.Need-returns Inv-loop μ-loop
-returns c = (words-all 4 _ _ _ _ _ (c .before .loop .inv .1) (omega arith))
+returns c = words-all 4 _ (c .before .loop .i) _ _ _ (c .before .loop .inv .1) (omega arith)
 
 pub put-words-spec : {M : Type 1} → statement M
 put-words-spec =
@@ -61,11 +60,11 @@ put-words-spec =
     Inv-loop
     μ-loop
     loop-holds
-    mul-put-word
-    add-put-word
-    mul-put-word-2
-    shared-slice-read-put-word
-    put-word-requires
+    mul-put32
+    add-put32
+    mul-put32-2
+    shared-slice-read-put32
+    put32-requires
     add-i
     loop-less
     loop-again
