@@ -40,10 +40,10 @@ pub fn ratio_sides(file: &[u8]) -> Ratio
     while i < rows {
         let row = first + ROW_BYTES * i;
         let curve = curve_at(file, &file[row..]);
-        let more = numerator_share(&file[row..], &file[curve..]);
-        let less = denominator_share(&file[row..]);
-        numerator = numerator.plus(more);
-        denominator = denominator.plus(less);
+        let up = numerator_share(&file[row..], &file[curve..]);
+        let down = denominator_share(&file[row..]);
+        numerator = numerator.plus(up);
+        denominator = denominator.plus(down);
         i += 1;
     }
     let imports = import_share(file);

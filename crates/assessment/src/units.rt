@@ -2,6 +2,7 @@
 
 ghost use mathlib.Core.Path.{_≡_};
 ghost use Prim.Native.Nat.{_+_, _-_, _<_, _^_, min, max};
+ghost use lib.Dec.{ltb};
 
 pub struct Kilowatts(pub u64);
 
@@ -75,5 +76,18 @@ impl Cents {
         ensures { λ r. ⌜ r .0 ≡ self .0 - other .0 ⌝ }
     {
         Cents(above(self.0, other.0))
+    }
+
+    pub fn plus(self, other: Cents) -> Cents
+        requires { ⌜ self .0 + other .0 < 2 ^ 64 ⌝ }
+        ensures { λ r. ⌜ r .0 ≡ self .0 + other .0 ⌝ }
+    {
+        Cents(self.0 + other.0)
+    }
+
+    pub fn below(self, other: Cents) -> bool
+        ensures { λ r. ⌜ r ≡ ltb (self .0) (other .0) ⌝ }
+    {
+        self.0 < other.0
     }
 }

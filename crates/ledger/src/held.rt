@@ -16,6 +16,7 @@ use crate::layout::OFFSET;
 use crate::layout::account_at;
 use crate::layout::word;
 use assessment::rules::limit;
+use assessment::units::Cents;
 use reading::block::MOST_IDS;
 use reading::block::terms_outside;
 use reading::interval::INTERVALS_PER_DAY;
@@ -78,7 +79,7 @@ fn account_outside(cone: u64, days: u64, a: Account) -> bool
         return true;
     }
     let most = limit(cone, days, a.largest);
-    if most.0 < a.charged.0 {
+    if most.below(a.charged) {
         return true;
     }
     MOST_CREDITED < a.credited.0
@@ -118,16 +119,16 @@ fn does_not_close(ledger: &[u8]) -> bool
     ensures { λ r. ⌜ r ≡ doesNotClose (ledgerOf (now (ledger .entry))) ⌝ }
 {
     let count = word(ledger, ACCOUNTS) as usize;
-    let mut charged = 0;
-    let mut credited = 0;
+    let mut charged = Cents(0);
+    let mut credited = Cents(0);
     let mut j = 0;
     while j < count {
         let a = account_at(ledger, j);
-        charged += a.charged.0;
-        credited += a.credited.0;
+        charged = charged.plus(a.charged);
+        credited = credited.plus(a.credited);
         j += 1;
     }
-    charged != credited + word(ledger, CARRIED)
+    charged.0 != credited.plus(Cents(word(ledger, CARRIED))).0
 }
 
 // Ground 6.

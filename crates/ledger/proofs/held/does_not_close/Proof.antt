@@ -1,7 +1,9 @@
 -- `ledger::held::does_not_close` meets its contract. What is left to add is the sums of the accounts from j on; sums of so many bounded numbers fit 64 bits.
 use Prim.Native.Nat.{_+_, _-_, _≤_}
-use mathlib.Core.Path.{_≡_, sym}
+use mathlib.Core.Bool.{not}
+use mathlib.Core.Path.{_≡_, sym, ap, _∙_}
 use native.Mathlib.Omega.{arith}
+use lib.Dec.{eqb}
 use Rattle.words.specs.Lists.{sum}
 use Rattle.words.proofs.Lists.{sum-start, sum-turn, sum-end}
 use Rattle.ledger.specs.Ledger.{ledgerBytes, accountCount, ledgerOf}
@@ -14,8 +16,8 @@ abbrev Inv-loop : tie.InvT-loop
 Inv-loop ledger count charged₀ credited₀ j₀ charged credited j =
     (count ≡ accountCount ledger)
     × ((j ≤ count)
-    × ((charged + sum (λ a. a .charged) (accountsLeft ledger j) ≡ sum (λ a. a .charged) (ledgerOf ledger .accounts))
-    × (credited + sum (λ a. a .credited) (accountsLeft ledger j) ≡ sum (λ a. a .credited) (ledgerOf ledger .accounts))))
+    × ((charged .0 + sum (λ a. a .charged) (accountsLeft ledger j) ≡ sum (λ a. a .charged) (ledgerOf ledger .accounts))
+    × (credited .0 + sum (λ a. a .credited) (accountsLeft ledger j) ≡ sum (λ a. a .credited) (ledgerOf ledger .accounts))))
 
 abbrev μ-loop : tie.MeasureT-loop
 μ-loop ledger count charged₀ credited₀ j₀ charged credited j = count - j
@@ -32,22 +34,22 @@ account-at-requires : tie.Need-account-at-requires Inv-loop μ-loop
 unfolding ledgerBytes
 account-at-requires c κs = omega arith
 
-add-charged : tie.Need-add-charged Inv-loop μ-loop
-add-charged c =
+plus-requires : tie.Need-plus-requires Inv-loop μ-loop
+plus-requires c κs =
+    let l = c .before .before in
+    let start = l .before .before .before in
+    let b = start .args .ledger .now in
+    let pre = start .pre in
+    let turn = sum-turn (λ a. a .charged) _ _ _ (accounts-turn b (l .loop .j) (omega arith)) (l .loop .inv .1 .1 .0) (c .account-at .ensures .2) in
+    omega (arith, turn, charged-sum b (pre .0) (pre .1 .1 .0) (pre .1 .1 .1 .0) (pre .1 .1 .1 .1 .1))
+
+plus-requires-2 : tie.Need-plus-requires-2 Inv-loop μ-loop
+plus-requires-2 c κs =
     let l = c .before .before .before in
     let start = l .before .before .before in
     let b = start .args .ledger .now in
     let pre = start .pre in
-    let turn = sum-turn (λ a. a .charged) _ _ _ (accounts-turn b (l .loop .j) (omega arith)) (l .loop .inv .1 .1 .0) (c .before .account-at .ensures .2) in
-    omega (arith, turn, charged-sum b (pre .0) (pre .1 .1 .0) (pre .1 .1 .1 .0) (pre .1 .1 .1 .1 .1))
-
-add-credited : tie.Need-add-credited Inv-loop μ-loop
-add-credited c =
-    let l = c .before .before .before .before in
-    let start = l .before .before .before in
-    let b = start .args .ledger .now in
-    let pre = start .pre in
-    let turn = sum-turn (λ a. a .credited) _ _ _ (accounts-turn b (l .loop .j) (omega arith)) (l .loop .inv .1 .1 .1) (c .before .before .account-at .ensures .3) in
+    let turn = sum-turn (λ a. a .credited) _ _ _ (accounts-turn b (l .loop .j) (omega arith)) (l .loop .inv .1 .1 .1) (c .before .account-at .ensures .3) in
     omega (arith, turn, credited-sum b (pre .0) (pre .1 .1 .0) (pre .1 .1 .1 .0) (pre .1 .1 .1 .1 .1))
 
 add-j : tie.Need-add-j Inv-loop μ-loop
@@ -63,17 +65,17 @@ loop-again c =
     let inv = l .loop .inv in
     let a = c .before .before .account-at .ensures in
     let left = accounts-turn b (l .loop .j) (omega arith) in
-    let charged = sum-turn (λ a. a .charged) _ _ _ left (inv .1 .1 .0) (a .2) in
-    let credited = sum-turn (λ a. a .credited) _ _ _ left (inv .1 .1 .1) (a .3) in
+    let charged = ap (λ cents. cents + sum (λ a. a .charged) (accountsLeft b (l .loop .j + 1))) (c .before .plus .ensures) ∙ sum-turn (λ a. a .charged) _ _ _ left (inv .1 .1 .0) (a .2) in
+    let credited = ap (λ cents. cents + sum (λ a. a .credited) (accountsLeft b (l .loop .j + 1))) (c .plus2 .ensures) ∙ sum-turn (λ a. a .credited) _ _ _ left (inv .1 .1 .1) (a .3) in
     (inv .0, (omega arith, (charged, credited)))
 
 word-requires-2 : tie.Need-word-requires-2 Inv-loop μ-loop
 unfolding ledgerBytes
 word-requires-2 c κs = omega arith
 
-add-result : tie.Need-add-result Inv-loop μ-loop
+plus-requires-3 : tie.Need-plus-requires-3 Inv-loop μ-loop
 unfolding ledgerOf
-add-result c =
+plus-requires-3 c κs =
     let l = c .before .before in
     let start = l .before .before .before in
     let b = start .args .ledger .now in
@@ -84,13 +86,13 @@ add-result c =
 returns : tie.Need-returns Inv-loop μ-loop
 unfolding ledgerOf
 returns c =
-    let l = c .before .before in
+    let l = c .before .before .before .before .before in
     let b = l .before .before .before .args .ledger .now in
     let sums = l .loop .inv .1 .1 in
     let none = accounts-end b (l .loop .j) (omega arith) in
     let charged = sum-end (λ a. a .charged) _ _ none (sums .0) in
     let credited = sum-end (λ a. a .credited) _ _ none (sums .1) in
-    sym (sums-test b _ _ _ charged credited (c .word2 .ensures))
+    ap (λ cents. not (eqb (l .loop .charged .0) cents)) (c .before .before .plus3 .ensures) ∙ sym (sums-test b _ _ _ charged credited (c .before .before .before .word2 .ensures))
 
 pub does-not-close-spec : {M : Type 1} → statement M
 does-not-close-spec =
@@ -101,11 +103,11 @@ does-not-close-spec =
     word-requires
     loop-holds
     account-at-requires
-    add-charged
-    add-credited
+    plus-requires
+    plus-requires-2
     add-j
     loop-less
     loop-again
     word-requires-2
-    add-result
+    plus-requires-3
     returns)
