@@ -2,18 +2,15 @@
 use Prim.Native.Nat.{ℕ, _+_, _-_, _*_, _≤_, _<_}
 use mathlib.Core.Path.{_≡_, refl, ap, _∙_}
 use mathlib.Core.List.{List, []}
-use mathlib.Core.Bool.{Bool, false, _&&_}
+use mathlib.Core.Bool.{Bool, false}
 use native.Mathlib.Omega.{arith}
 use lib.ListN.{length, take, drop, length-drop}
-use lib.Dec.{ltb}
-use borrow.Author.Tests.{lt-ltb, ltb-false}
 use borrow.Rule.Slice.PartAt.{part-to-end}
 use Rattle.words.specs.Words.{word32}
-use Rattle.words.proofs.Tests.{facts}
 use Rattle.reading.specs.Interval.{rowBytes, Row, kindOf, headerOf, rowAt, rowOf, pointsOutside}
 use Rattle.assessment.specs.Assessment.{denominatorShareAs, denominatorShare}
 use Rattle.assessment.proofs.KindLaws.{each-kind}
-use Rattle.reading.proofs.Walk.{part-at, rowPart}
+use Rattle.reading.proofs.Walk.{part-at, rowPart, points-within}
 
 -- what a row adds to the denominator does not depend on its points
 denominator-without-points : (b p q : List ℕ) → denominatorShare (rowAt b p) ≡ denominatorShare (rowAt b q)
@@ -33,20 +30,12 @@ module _ (f : List ℕ) where
   abbrev pub fails : Row → Bool
   fails = pointsOutside (headerOf f .pointCount)
 
-  -- the points of a row that ground 14 does not refuse lie within the table
-  pub points-within : (i : ℕ) → fails (rowOf f (rowPart f i)) ≡ false → 0 < word32 (rowPart f i) 13
-      → word32 (rowPart f i) 12 + word32 (rowPart f i) 13 ≤ headerOf f .pointCount
-  unfolding pointsOutside rowOf rowAt
-  points-within i e some =
-      let both : (ltb 0 (word32 (rowPart f i) 13) && ltb (headerOf f .pointCount) (word32 (rowPart f i) 12 + word32 (rowPart f i) 13)) ≡ false = search facts in
-      ltb-false (headerOf f .pointCount) (word32 (rowPart f i) 12 + word32 (rowPart f i) 13) (rw (lt-ltb 0 (word32 (rowPart f i) 13) some) at both)
-
   -- where the table of points ends within the file, so do the points of such a row
   pub curve-within : (i at : ℕ) → at ≡ headerOf f .rowsOffset + rowBytes * i → fails (rowOf f (rowPart f i)) ≡ false
       → headerOf f .pointsOffset + 8 * headerOf f .pointCount ≤ length f → 0 < word32 (partFrom at) 13
       → headerOf f .pointsOffset + 8 * (word32 (partFrom at) 12 + word32 (partFrom at) 13) ≤ length f
   curve-within i at place e table =
-      rw (part-at f at (headerOf f .rowsOffset + rowBytes * i) place) (λ some. omega (arith, points-within i e some, table))
+      rw (part-at f at (headerOf f .rowsOffset + rowBytes * i) place) (λ some. omega (arith, points-within f i e some, table))
 
   -- a figure of the row in two parts of the file is that of the row of the file
   pub row-in-parts : (g : Row → ℕ) (i at curve share : ℕ) → at ≡ headerOf f .rowsOffset + rowBytes * i

@@ -1,35 +1,18 @@
--- What each test that the code makes says of grounds 1 to 3.
+-- What each test that the code makes says of grounds 2 and 3.
 use Prim.Native.Nat.{ℕ, _+_, _*_, _≤_, _<_}
 use mathlib.Core.Path.{_≡_, ap, _∙_}
 use mathlib.Core.List.{List}
 use mathlib.Core.Bool.{true, false, not}
 use lib.ListN.{length, drop, getD}
-use lib.Dec.{ltb, eqb}
+use lib.Dec.{eqb}
 use native.Mathlib.Omega.{arith}
-use borrow.Author.Tests.{le-leb, lt-leb, eq-eqb, ne-eqb}
+use borrow.Author.Tests.{eq-eqb, ne-eqb}
 use Rattle.words.specs.Grounds.{liesFrom}
 use Rattle.words.specs.Words.{numberAt, word32}
-use Rattle.words.proofs.Tests.{lies-inside, lies-below, lies-above, not-leb}
+use Rattle.words.proofs.Tests.{lies-inside, lies-below, lies-above}
 use Rattle.words.proofs.Words.{entry-at}
 use Rattle.words.proofs.Access.{numberAt-drop}
-use Rattle.reading.specs.Block.{blockHeaderBytes, mostBlockBytes, mostNetCone, mostIds, idBytes, Terms, blockOf, notABlock, termsOutside, idsMisplaced}
-
--- ground 1
-module _ (b : List ℕ) where
-  -- ground 1 refuses a block shorter than its five words
-  pub block-short : length b < blockHeaderBytes → notABlock b ≡ true
-  unfolding notABlock
-  block-short h = rw (lies-below blockHeaderBytes mostBlockBytes (length b) h)
-
-  -- ground 1 refuses a block longer than the most bytes
-  pub block-long : mostBlockBytes < length b → notABlock b ≡ true
-  unfolding notABlock
-  block-long h = rw (lies-above blockHeaderBytes mostBlockBytes (length b) h)
-
-  -- at a length in range, word 0 decides ground 1: it must be 1
-  pub block-format : blockHeaderBytes ≤ length b → length b ≤ mostBlockBytes → notABlock b ≡ not (eqb (blockOf b .format) 1)
-  unfolding notABlock
-  block-format low high = rw (lies-inside blockHeaderBytes mostBlockBytes (length b) low high)
+use Rattle.reading.specs.Block.{blockHeaderBytes, mostNetCone, mostIds, idBytes, Terms, blockOf, termsOutside, idsMisplaced}
 
 -- ground 2
 module _ (t : Terms) where
@@ -65,18 +48,10 @@ module _ (b : List ℕ) (n : ℕ) (count : n ≡ blockOf b .idCount) where
   unfolding idsMisplaced
   ids-many h = rw (← count, lies-above 1 mostIds n h)
 
-  -- and their offset
-  module _ (at : ℕ) (offset : at ≡ blockOf b .idsOffset) where
-    -- with a number in range, ground 3 refuses ids that begin within the block's five words
-    pub ids-early : 1 ≤ n → n ≤ mostIds → at < blockHeaderBytes → idsMisplaced b ≡ true
-    unfolding idsMisplaced liesFrom
-    ids-early low high h = rw (← count, ← offset, lies-inside 1 mostIds n low high, lt-leb blockHeaderBytes at h)
-
-    -- with a number in range, ids that begin behind those words are refused just where they end beyond the block
-    pub ids-late : 1 ≤ n → n ≤ mostIds → blockHeaderBytes ≤ at → idsMisplaced b ≡ ltb (length b) (at + idBytes * n)
-    unfolding idsMisplaced liesFrom
-    ids-late low high h =
-        rw (← count, ← offset, lies-inside 1 mostIds n low high, le-leb blockHeaderBytes at h) (not-leb (at + idBytes * n) (length b))
+  -- with a number in range, ground 3 refuses just ids that do not lie between the block's five words and its end
+  pub ids-left : (at : ℕ) → at ≡ blockOf b .idsOffset → 1 ≤ n → n ≤ mostIds → idsMisplaced b ≡ not (liesFrom blockHeaderBytes (length b) at (idBytes * n))
+  unfolding idsMisplaced
+  ids-left at offset low high = rw (← count, ← offset, lies-inside 1 mostIds n low high)
 
 -- an id is the word at its place
 pub id-is : (b : List ℕ) (i : ℕ) → i < blockOf b .idCount → getD (blockOf b .ids) i 0 ≡ numberAt 4 b (blockOf b .idsOffset + idBytes * i)

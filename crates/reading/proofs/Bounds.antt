@@ -64,13 +64,6 @@ pub header-in : (h : Header) → headerOutside h ≡ false → HeaderIn h
 unfolding headerOutside beyond
 header-in h e = record { interval = search facts; imports = search facts }
 
--- a number of rows that ground 11 does not refuse
-pub rows-few : (f : List ℕ) → tablesMisplaced f ≡ false → headerOf f .rowCount ≤ mostRows
-unfolding tablesMisplaced
-rows-few f e =
-    let range : outside 1 mostRows (headerOf f .rowCount) ≡ false = search facts depth 9 in
-    not-outside 1 mostRows (headerOf f .rowCount) range .1
-
 -- a file read from bytes has as many rows as word 6 of its header says
 pub length-rows : (f : List ℕ) → length (rowsOf f) ≡ headerOf f .rowCount
 unfolding rowsOf
@@ -128,9 +121,11 @@ pub record TablesIn (f : List ℕ) : Type 0 where
 -- tables that ground 11 does not refuse have no more than the most rows and points, and end within the file
 pub tables-in : (f : List ℕ) → tablesMisplaced f ≡ false → TablesIn f
 unfolding tablesMisplaced liesFrom
-tables-in f e = record {
-  rows = rows-few f e;
-  points = search facts depth 9;
-  rows-lie = search facts depth 9;
-  points-lie = search facts depth 9;
-}
+tables-in f e =
+    let range : outside 1 mostRows (headerOf f .rowCount) ≡ false = search facts depth 9 in
+    record {
+      rows = not-outside 1 mostRows (headerOf f .rowCount) range .1;
+      points = search facts depth 9;
+      rows-lie = search facts depth 9;
+      points-lie = search facts depth 9;
+    }

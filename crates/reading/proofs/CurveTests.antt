@@ -2,42 +2,45 @@
 use Prim.Native.Nat.{ℕ, _+_, _-_, _*_, _≤_, _<_}
 use mathlib.Core.Path.{_≡_, refl}
 use mathlib.Core.List.{List, [], _∷_}
-use mathlib.Core.Bool.{Bool, true, false, _||_, _&&_, or-false}
+use mathlib.Core.Bool.{Bool, true, false, _&&_, or-false}
 use native.Mathlib.Omega.{arith}
-use borrow.Author.Tests.{lt-ltb, le-ltb, ltb-false}
-use lib.ListN.{drop}
+use borrow.Author.Tests.{lt-ltb, le-ltb, ltb-true, ltb-false}
 use lib.Dec.{ltb}
 use lib.Signed.{ltZ}
 use Rattle.words.specs.Words.{word32, signed}
 use Rattle.words.specs.Grounds.{beyond}
 use Rattle.words.proofs.Tests.{not-second}
-use Rattle.reading.specs.Interval.{pointBytes, mostRowPoints, mostKilowatts, mostPrice, Point, pointOf, pointOutside, fallsAfter, falls}
+use Rattle.reading.specs.Interval.{pointBytes, mostRowPoints, mostKilowatts, mostPrice, Row, pointOf, pointOutside, fallsAfter, falls, curveMisplaced, pointAt, pointRefused}
 
 -- the number of a row's points, and their place
-module _ (count first points : ℕ) where
-  -- whether ground 14 refuses that number or that place; without points the place is free
-  abbrev pub misplaced : Bool
-  misplaced = ltb mostRowPoints count || (ltb 0 count && ltb points (first + count))
-
+module _ (points : ℕ) (r : Row) where
   -- more points than a row may have are refused
-  pub count-above : mostRowPoints < count → misplaced ≡ true
-  count-above h = rw (lt-ltb mostRowPoints count h)
+  pub count-above : mostRowPoints < r .pointCount → curveMisplaced points r ≡ true
+  unfolding curveMisplaced
+  count-above h = rw (lt-ltb mostRowPoints (r .pointCount) h)
 
   -- a row without points is not refused for their number or place
-  pub none-named : count ≡ 0 → misplaced ≡ false
+  pub none-named : r .pointCount ≡ 0 → curveMisplaced points r ≡ false
+  unfolding curveMisplaced
   none-named h = rw h
 
   -- where there are some points, but not too many, the place decides: they must end within the file's points
-  pub some-named : count ≤ mostRowPoints → 0 < count → misplaced ≡ ltb points (first + count)
-  some-named few some = rw (le-ltb mostRowPoints count few, lt-ltb 0 count some)
+  pub some-named : r .pointCount ≤ mostRowPoints → 0 < r .pointCount → curveMisplaced points r ≡ ltb points (r .firstPoint + r .pointCount)
+  unfolding curveMisplaced
+  some-named few some = rw (le-ltb mostRowPoints (r .pointCount) few, lt-ltb 0 (r .pointCount) some)
 
-  -- points that are in place lie within a table that does, if there are any
-  pub points-within : (table end : ℕ) → misplaced ≡ false → table + pointBytes * points ≤ end → pointBytes * count ≤ end - (table + pointBytes * first)
-  points-within table end e h = by (ltb 0 count) refl (not-second (ltb mostRowPoints count) (ltb 0 count && ltb points (first + count)) e)
+  -- points that are in place end within the file's points, if there are any
+  pub points-end : curveMisplaced points r ≡ false → 0 < r .pointCount → r .firstPoint + r .pointCount ≤ points
+  unfolding curveMisplaced
+  points-end e some = ltb-false points (r .firstPoint + r .pointCount) (rw (lt-ltb 0 (r .pointCount) some) at (not-second (ltb mostRowPoints (r .pointCount)) (ltb 0 (r .pointCount) && ltb points (r .firstPoint + r .pointCount)) e))
+
+  -- and so within a table that lies within the file
+  pub points-room : (table end : ℕ) → curveMisplaced points r ≡ false → table + pointBytes * points ≤ end → pointBytes * r .pointCount ≤ end - (table + pointBytes * r .firstPoint)
+  points-room table end e h = by (ltb 0 (r .pointCount)) refl
     where
-      by : (t : Bool) → ltb 0 count ≡ t → (t && ltb points (first + count)) ≡ false → pointBytes * count ≤ end - (table + pointBytes * first)
-      by true p q = omega (arith, ltb-false points (first + count) q)
-      by false p q = omega (arith, ltb-false 0 count p)
+      by : (t : Bool) → ltb 0 (r .pointCount) ≡ t → pointBytes * r .pointCount ≤ end - (table + pointBytes * r .firstPoint)
+      by true p = omega (arith, points-end e (ltb-true 0 (r .pointCount) p))
+      by false p = omega (arith, ltb-false 0 (r .pointCount) p)
 
 -- a point by itself
 module _ (b : List ℕ) where
@@ -65,25 +68,17 @@ module _ (b c : List ℕ) where
 
 -- point j of a curve, and the one before it
 module _ (c : List ℕ) where
-  -- point j, read from its place in the curve's bytes
-  abbrev pub pointAt : ℕ → Point
-  pointAt j = pointOf (drop (pointBytes * j) c)
-
-  -- whether point j is out of range, or falls from the one before it
-  abbrev pub refused : ℕ → Bool
-  refused j = pointOutside (pointAt j) || (ltb 0 j && falls (pointAt (j - 1) ∷ pointAt j ∷ []))
-
   -- a point out of range is refused
-  pub refused-outside : (j : ℕ) → pointOutside (pointAt j) ≡ true → refused j ≡ true
+  pub refused-outside : (j : ℕ) → pointOutside (pointAt c j) ≡ true → pointRefused c j ≡ true
   refused-outside j h = rw h
 
   -- the first point, if in range, is not refused: there is none before it to fall from
-  pub refused-first : (j : ℕ) → pointOutside (pointAt j) ≡ false → j ≡ 0 → refused j ≡ false
+  pub refused-first : (j : ℕ) → pointOutside (pointAt c j) ≡ false → j ≡ 0 → pointRefused c j ≡ false
   refused-first j h e = rw (h, lt-0)
     where
       lt-0 : ltb 0 j ≡ false
       lt-0 = le-ltb 0 j (omega arith)
 
   -- a later point in range is refused just where it falls from the one before it
-  pub refused-later : (j : ℕ) → pointOutside (pointAt j) ≡ false → 0 < j → refused j ≡ falls (pointAt (j - 1) ∷ pointAt j ∷ [])
+  pub refused-later : (j : ℕ) → pointOutside (pointAt c j) ≡ false → 0 < j → pointRefused c j ≡ falls (pointAt c (j - 1) ∷ pointAt c j ∷ [])
   refused-later j h p = rw (h, lt-ltb 0 j p)

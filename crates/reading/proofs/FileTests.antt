@@ -1,4 +1,4 @@
--- What each test that the code makes says of grounds 7, 9 and 11.
+-- What each test that the code makes says of grounds 9 and 11.
 use Prim.Native.Nat.{ℕ, _+_, _-_, _*_, _≤_, _<_}
 use mathlib.Core.Path.{_≡_, sym, ap, _∙_}
 use mathlib.Core.List.{List}
@@ -7,12 +7,12 @@ use native.Mathlib.Omega.{arith}
 use borrow.Author.Tests.{lt-ltb, le-ltb, le-leb, lt-leb}
 use lib.ListN.{length}
 use lib.IntN.{pos, natAbs, _-ℤ_}
-use lib.Dec.{ltb, eqb}
+use lib.Dec.{ltb}
 use Rattle.words.specs.Words.{word32, signed}
 use Rattle.words.specs.Grounds.{beyond, liesFrom, overlap}
-use Rattle.words.proofs.Tests.{lies-inside, lies-below, lies-above, not-leb}
+use Rattle.words.proofs.Tests.{lies-inside, lies-below, lies-above}
 use Rattle.words.proofs.Ints.{less-2^32}
-use Rattle.reading.specs.Interval.{headerBytes, mostFileBytes, intervalsPerDay, mostImports, mostRows, mostPoints, rowBytes, pointBytes, headerOf, notAFile, headerOutside, tablesMisplaced}
+use Rattle.reading.specs.Interval.{headerBytes, intervalsPerDay, mostImports, mostRows, mostPoints, rowBytes, pointBytes, headerOf, headerOutside, tablesMisplaced}
 
 -- how far a signed word lies from 0
 module _ (most w : ℕ) where
@@ -32,23 +32,6 @@ module _ (most w : ℕ) where
 pub beyond-of : (most : ℕ) {w v : ℕ} {t u : Bool} → w ≡ v → t ≡ beyond most (signed w) → t ≡ u → beyond most (signed v) ≡ u
 beyond-of most is tests gave = ap (λ w. beyond most (signed w)) (sym is) ∙ sym tests ∙ gave
 
--- ground 7
-module _ (f : List ℕ) where
-  -- ground 7 refuses a file shorter than its ten words
-  pub file-short : length f < headerBytes → notAFile f ≡ true
-  unfolding notAFile
-  file-short h = rw (lies-below headerBytes mostFileBytes (length f) h)
-
-  -- ground 7 refuses a file longer than the most bytes
-  pub file-long : mostFileBytes < length f → notAFile f ≡ true
-  unfolding notAFile
-  file-long h = rw (lies-above headerBytes mostFileBytes (length f) h)
-
-  -- at a length in range, word 0 decides ground 7: it must be 1
-  pub file-format : headerBytes ≤ length f → length f ≤ mostFileBytes → notAFile f ≡ not (eqb (word32 f 0) 1)
-  unfolding notAFile headerOf
-  file-format low high = rw (lies-inside headerBytes mostFileBytes (length f) low high)
-
 -- ground 9
 module _ (f : List ℕ) where
   -- ground 9 refuses an interval that is not below the number of intervals in the file's days
@@ -65,18 +48,6 @@ module _ (f : List ℕ) where
   pub imports-left : word32 f 1 < intervalsPerDay * word32 f 3 → word32 f 4 ≤ 1 → headerOutside (headerOf f) ≡ beyond mostImports (signed (word32 f 5))
   unfolding headerOutside headerOf
   imports-left early flag = rw (lt-leb (intervalsPerDay * word32 f 3) (word32 f 1) early, le-ltb 1 (word32 f 4) flag)
-
--- a table's place
-module _ (end at bytes : ℕ) where
-  -- a table that begins within the header is out of place
-  pub table-early : at < headerBytes → not (liesFrom headerBytes end at bytes) ≡ true
-  unfolding liesFrom
-  table-early h = rw (lt-leb headerBytes at h)
-
-  -- a table that begins behind the header is out of place just where it goes beyond the end
-  pub table-late : headerBytes ≤ at → not (liesFrom headerBytes end at bytes) ≡ ltb end (at + bytes)
-  unfolding liesFrom
-  table-late h = rw (le-leb headerBytes at h) (not-leb (at + bytes) end)
 
 -- two tables
 module _ (a m b n : ℕ) where

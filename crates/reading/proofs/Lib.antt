@@ -3,6 +3,7 @@ pub mod Figures
 pub mod Bounds
 pub mod Bools
 pub mod Order
+pub mod CommonTests
 pub mod BlockTests
 pub mod FileTests
 pub mod RowTests

@@ -30,12 +30,12 @@ no-points b p q none =
       curve = same i;
     }
 
--- where there are none
+-- a row without points is the file's row, wherever they are said to begin
 pub row-without : (f b : List ℕ) (at : ℕ) → word32 b 13 ≡ 0 → rowAt b (drop at f) ≡ rowOf f b
 unfolding rowOf
 row-without f b at none = no-points b (drop at f) (pointsFrom f (word32 b 12)) none
 
--- where there are some
+-- a row whose points are said to begin where its word 12 says is the file's row
 pub row-with : (f b : List ℕ) (at : ℕ) → at ≡ headerOf f .pointsOffset + pointBytes * word32 b 12 → rowAt b (drop at f) ≡ rowOf f b
 unfolding rowOf pointsFrom
 row-with f b at e = ap (λ k. rowAt b (drop k f)) e

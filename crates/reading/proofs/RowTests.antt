@@ -46,8 +46,9 @@ pub record Passes (b : List ℕ) : Type 0 where
   pub online : word32 b 10 ≤ 1
   pub lmp : beyond mostPrice (signed (word32 b 11)) ≡ false
 
+-- a row of words b: one test that fails decides
 module _ (b p : List ℕ) where
-  -- one test that fails decides
+  -- ground 13 refuses a kind above the last
   pub kind-above : lastKind < word32 b 1 → rowOutside (rowAt b p) ≡ true
   unfolding rowOutside rowAt
   kind-above h = rw (lt-ltb lastKind (word32 b 1) h)

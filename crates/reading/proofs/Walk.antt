@@ -12,13 +12,15 @@ use lib.Signed.{ltZ}
 use Rattle.words.specs.Lists.{any}
 use Rattle.words.specs.Words.{word32, entries}
 use Rattle.words.specs.Grounds.{answered}
+use Rattle.words.proofs.Tests.{facts}
+use Rattle.words.proofs.Grounds.{none-applies}
 use Rattle.words.proofs.Lists.{any-turn, any-end}
 use Rattle.words.proofs.Words.{length-entries}
-use Rattle.reading.specs.Interval.{rowBytes, pointBytes, Row, Point, headerOf, pointOf, rowAt, pointsFrom, rowOf, rowsOf, rowOutside, pointOutside, fallsAfter, falls, pointsOutside}
+use Rattle.reading.specs.Interval.{rowBytes, pointBytes, Row, Point, headerOf, pointOf, rowAt, pointsFrom, rowOf, rowsOf, rowOutside, pointOutside, fallsAfter, falls, curveMisplaced, pointsOutside, pointAt, pointRefused, scanned}
 use Rattle.reading.proofs.Bools.{or-apart, or-then}
 use Rattle.reading.proofs.Tables.{entriesFrom, table-start, table-turn, table-turn-at, table-end}
 use Rattle.reading.proofs.RowTests.{curve-free}
-use Rattle.reading.proofs.CurveTests.{misplaced, pointAt, refused}
+use Rattle.reading.proofs.CurveTests.{points-end}
 
 -- one point falls from none
 falls-short : (ps : List Point) → length ps ≤ 1 → falls ps ≡ false
@@ -57,13 +59,13 @@ module _ (n : ℕ) (c : List ℕ) where
       rw (here, lt-ltb 0 (suc i) (omega arith)) (ap falls both ∙ or-then (ltZ (q .price) (p .price) || ltb (q .kw) (p .kw)) (fallsAfter q rest) ∙ ap (λ ps. falls (p ∷ q ∷ []) || falls ps) (sym later))
 
   -- what is left from point j on is whether point j is refused, or what is left from j + 1 on
-  pub curve-turn : (j : ℕ) → j < n → curveLeft j ≡ (refused c j || curveLeft (j + 1))
+  pub curve-turn : (j : ℕ) → j < n → curveLeft j ≡ (pointRefused c j || curveLeft (j + 1))
   unfolding curveLeft any
   curve-turn j h =
       let back : j + 1 - 1 ≡ j = omega arith in
       ap₂ _||_ (ap (any pointOutside) (table-turn pointBytes pointOf n c j h)) (falls-turn j h)
       ∙ or-apart (pointOutside (pointAt c j)) (any pointOutside (pointsLeft (j + 1))) (ltb 0 j && falls (pointAt c (j - 1) ∷ pointAt c j ∷ [])) (falls (pointsLeft j))
-      ∙ ap (λ k. refused c j || (any pointOutside (pointsLeft (j + 1)) || falls (pointsLeft k))) (sym back)
+      ∙ ap (λ k. pointRefused c j || (any pointOutside (pointsLeft (j + 1)) || falls (pointsLeft k))) (sym back)
 
   -- from the count on, no point is left to be out of range or to fall
   pub curve-end : (j : ℕ) → n ≤ j → curveLeft j ≡ false
@@ -105,9 +107,21 @@ module _ (f : List ℕ) where
   unfolding rowsLeft
   rows-end = table-end rowBytes (rowOf f) (headerOf f .rowCount) (drop (headerOf f .rowsOffset) f)
 
-  -- what is answered of grounds 13 and 14
-  abbrev pub scanned : ℕ
-  scanned = answered ((any rowOutside (rowsOf f), 13) ∷ (any (pointsOutside (headerOf f .pointCount)) (rowsOf f), 14) ∷ [])
+  -- whether ground 14 refuses a row of the file
+  abbrev pub fails : Row → Bool
+  fails = pointsOutside (headerOf f .pointCount)
+
+  -- where neither 13 nor 14 is answered, neither applies
+  pub scanned-none : scanned f ≡ 0 → (any rowOutside (rowsOf f) ≡ false) × (any fails (rowsOf f) ≡ false)
+  unfolding any
+  scanned-none e =
+      let none = none-applies ((any rowOutside (rowsOf f), 13) ∷ (any fails (rowsOf f), 14) ∷ []) refl e in
+      (search facts, search facts)
+
+  -- the points of a row that ground 14 does not refuse lie within the table
+  pub points-within : (k : ℕ) → fails (rowOf f (rowPart k)) ≡ false → 0 < word32 (rowPart k) 13 → word32 (rowPart k) 12 + word32 (rowPart k) 13 ≤ headerOf f .pointCount
+  unfolding pointsOutside rowOf rowAt
+  points-within k e = points-end (headerOf f .pointCount) (rowOf f (rowPart k)) (search facts)
 
   -- ground 13 depends on the rows from i on
   module _ (i : ℕ) (left : any rowOutside (rowsOf f) ≡ any rowOutside (rowsLeft i)) where
@@ -117,7 +131,7 @@ module _ (f : List ℕ) where
     row-turn told h e = any-turn rowOutside told left (rows-turn i h) (curve-free (rowPart i) (pointsFrom f (word32 (rowPart i) 12)) [] ∙ e)
 
     -- row i fails ground 13, so the answer is 13
-    pub row-fails : i < headerOf f .rowCount → rowOutside (rowAt (rowPart i) []) ≡ true → scanned ≡ 13
+    pub row-fails : i < headerOf f .rowCount → rowOutside (rowAt (rowPart i) []) ≡ true → scanned f ≡ 13
     unfolding answered
     row-fails h e = rw (row-turn true h e)
 
@@ -134,7 +148,7 @@ module _ (f : List ℕ) where
 
   -- no row fails ground 13, and ground 14 depends on the rows from k on
   module _ (k : ℕ) (good : any rowOutside (rowsOf f) ≡ false) where
-    -- the points that row k begins with, and their number
+    -- the part of the file that begins with the points of row k
     abbrev pub rowCurve : List ℕ
     rowCurve = pointsFrom f (word32 (rowPart k) 12)
 
@@ -142,52 +156,48 @@ module _ (f : List ℕ) where
     abbrev pub rowPoints : ℕ
     rowPoints = word32 (rowPart k) 13
 
-    -- whether ground 14 refuses a row of the file
-    abbrev fails : Row → Bool
-    fails = pointsOutside (headerOf f .pointCount)
-
     -- where a row fails ground 14, the answer is 14
-    pub fault-found : any fails (rowsOf f) ≡ true → scanned ≡ 14
+    pub fault-found : any fails (rowsOf f) ≡ true → scanned f ≡ 14
     unfolding answered
     fault-found e = rw (good, e)
 
     -- where no row fails ground 14, the answer is 0
-    pub no-fault : any fails (rowsOf f) ≡ false → scanned ≡ 0
+    pub no-fault : any fails (rowsOf f) ≡ false → scanned f ≡ 0
     unfolding answered
     no-fault e = rw (good, e)
 
     module _ (left : any fails (rowsOf f) ≡ any fails (rowsLeft k)) where
       -- ground 14 depends on the number and place of row k's points, on the points, and on the rows after it
       points-turn : k < headerOf f .rowCount
-          → any fails (rowsOf f) ≡ ((misplaced rowPoints (word32 (rowPart k) 12) (headerOf f .pointCount) || curveLeft rowPoints rowCurve 0) || any fails (rowsLeft (k + 1)))
-      unfolding rowOf rowAt pointsOutside
+          → any fails (rowsOf f) ≡ ((curveMisplaced (headerOf f .pointCount) (rowAt (rowPart k) []) || curveLeft rowPoints rowCurve 0) || any fails (rowsLeft (k + 1)))
+      unfolding rowOf rowAt curveMisplaced pointsOutside
       points-turn h =
-          let place = misplaced rowPoints (word32 (rowPart k) 12) (headerOf f .pointCount) in
+          let place = curveMisplaced (headerOf f .pointCount) (rowAt (rowPart k) []) in
           let curve = entries pointBytes pointOf rowPoints rowCurve in
           any-turn fails (place || curveLeft rowPoints rowCurve 0) left (rows-turn k h)
           (or-assoc place (any pointOutside curve) (falls curve) ∙ ap (λ t. place || t) (curve-start rowPoints rowCurve))
 
       -- the number or place of row k's points is refused, so the answer is 14
-      pub curve-fails : k < headerOf f .rowCount → misplaced rowPoints (word32 (rowPart k) 12) (headerOf f .pointCount) ≡ true → scanned ≡ 14
+      pub curve-fails : k < headerOf f .rowCount → curveMisplaced (headerOf f .pointCount) (rowAt (rowPart k) []) ≡ true → scanned f ≡ 14
       curve-fails h e = fault-found (rw (points-turn h, e))
 
       -- number and place of row k's points pass, so its points and the rows after it decide
-      pub curve-begins : k < headerOf f .rowCount → misplaced rowPoints (word32 (rowPart k) 12) (headerOf f .pointCount) ≡ false
+      pub curve-begins : k < headerOf f .rowCount → curveMisplaced (headerOf f .pointCount) (rowAt (rowPart k) []) ≡ false
           → any fails (rowsOf f) ≡ (curveLeft rowPoints rowCurve 0 || any fails (rowsLeft (k + 1)))
       curve-begins h e = rw (points-turn h, e)
 
       -- no row is left, so the answer is 0
-      pub all-pass : headerOf f .rowCount ≤ k → scanned ≡ 0
+      pub all-pass : headerOf f .rowCount ≤ k → scanned f ≡ 0
       all-pass h = no-fault (any-end fails left (rows-end k h))
 
     -- and on the points of row k from j on
     module _ (j : ℕ) (left : any fails (rowsOf f) ≡ (curveLeft rowPoints rowCurve j || any fails (rowsLeft (k + 1)))) where
       -- point j of row k is refused, so the answer is 14
-      pub point-fails : j < rowPoints → refused rowCurve j ≡ true → scanned ≡ 14
+      pub point-fails : j < rowPoints → pointRefused rowCurve j ≡ true → scanned f ≡ 14
       point-fails h e = fault-found (rw (left, curve-turn rowPoints rowCurve j h, e))
 
       -- point j of row k is not refused, so the points after it and the rows after row k decide
-      pub point-passes : j < rowPoints → refused rowCurve j ≡ false → any fails (rowsOf f) ≡ (curveLeft rowPoints rowCurve (j + 1) || any fails (rowsLeft (k + 1)))
+      pub point-passes : j < rowPoints → pointRefused rowCurve j ≡ false → any fails (rowsOf f) ≡ (curveLeft rowPoints rowCurve (j + 1) || any fails (rowsLeft (k + 1)))
       point-passes h e = rw (left, curve-turn rowPoints rowCurve j h, e)
 
       -- no point of row k is left, so the rows after it decide

@@ -1,5 +1,5 @@
 -- The interval file: its layout, and the grounds that need the file alone (7, 9, 11, 13, 14).
-use Prim.Native.Nat.{ℕ, _+_, _*_}
+use Prim.Native.Nat.{ℕ, _+_, _-_, _*_}
 use mathlib.Core.List.{List, [], _∷_}
 use mathlib.Core.Bool.{Bool, false, cond, not, _||_, _&&_}
 use lib.ListN.{length, drop}
@@ -8,7 +8,7 @@ use lib.Dec.{ltb, leb, eqb}
 use lib.Signed.{ltZ}
 use Rattle.words.specs.Lists.{any}
 use Rattle.words.specs.Words.{word32, signed, entries}
-use Rattle.words.specs.Grounds.{outside, beyond, liesFrom, overlap}
+use Rattle.words.specs.Grounds.{answered, outside, beyond, liesFrom, overlap}
 use Rattle.reading.specs.Block.{Terms}
 
 -- bytes of the header of 10 words
@@ -98,8 +98,7 @@ pub record Point : Type 0 where
 unfoldable pub pointOf : List ℕ → Point
 pointOf b = record { price = signed (word32 b 0); kw = word32 b 1 }
 
--- a row: its 14 words, and the curve that its last two name. In kW: committed, owned, metered, reserve and regulation adjustment,
--- planned or maintenance outage, forced outage, emergency maximum, economic minimum; the LMP is in cents per MWh
+-- a row: its 14 words in document 01's order, words 2 to 9 in kW and the LMP in cents per MWh, and the curve that the last two name
 pub record Row : Type 0 where
   pub id : ℕ
   pub kind : ℕ
@@ -162,7 +161,7 @@ pub data Kind : Type 0 where
   energyOnly : Kind
   noKind : Kind
 
--- by the word: 0 generation or storage, 1 demand resource, 2 efficiency, 3 PRD (price responsive), 4 energy-only
+-- by the word: 0 generation or storage, 1 demand resource, 2 energy efficiency, 3 price responsive demand (PRD), 4 energy-only
 unfoldable pub kindOf : ℕ → Kind
 kindOf k =
     cond (eqb k 0) generation
@@ -213,8 +212,22 @@ unfoldable pub falls : List Point → Bool
 falls [] = false
 falls (p ∷ ps) = fallsAfter p ps
 
--- ground 14, of one row in a file of so many points: the number of its points, their place (without points word 12 is free), or the points themselves
+-- a row has too many points, or points beyond a table of so many; word 12 is free if word 13 is 0
+unfoldable pub curveMisplaced : ℕ → Row → Bool
+curveMisplaced points r = ltb mostRowPoints (r .pointCount) || (ltb 0 (r .pointCount) && ltb points (r .firstPoint + r .pointCount))
+
+-- ground 14, of one row in a file of so many points: the number or the place of its points, or the points themselves
 unfoldable pub pointsOutside : ℕ → Row → Bool
-pointsOutside points r =
-    ltb mostRowPoints (r .pointCount) || (ltb 0 (r .pointCount) && ltb points (r .firstPoint + r .pointCount))
-    || any pointOutside (r .curve) || falls (r .curve)
+pointsOutside points r = curveMisplaced points r || any pointOutside (r .curve) || falls (r .curve)
+
+-- point j of those that b begins with
+abbrev pub pointAt : List ℕ → ℕ → Point
+pointAt b j = pointOf (drop (pointBytes * j) b)
+
+-- point j is out of range, or falls from the one before it
+abbrev pub pointRefused : List ℕ → ℕ → Bool
+pointRefused b j = pointOutside (pointAt b j) || (ltb 0 j && falls (pointAt b (j - 1) ∷ pointAt b j ∷ []))
+
+-- what is answered of grounds 13 and 14: all rows are tested for 13 before any for 14
+abbrev pub scanned : List ℕ → ℕ
+scanned f = answered ((any rowOutside (rowsOf f), 13) ∷ (any (pointsOutside (headerOf f .pointCount)) (rowsOf f), 14) ∷ [])

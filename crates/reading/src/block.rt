@@ -1,5 +1,7 @@
 // The opening block: its words, and grounds 1 to 4.
 
+use crate::common::misplaced;
+use crate::common::not_of_format;
 use words::word32;
 ghost use mathlib.Core.Path.{_≡_};
 ghost use Prim.Native.Nat.{_+_, _*_, _≤_, _<_};
@@ -70,13 +72,7 @@ pub fn id_at(block: &[u8], i: usize) -> u64
 pub fn not_a_block(block: &[u8]) -> bool
     ensures { λ r. ⌜ r ≡ notABlock (now (block .entry)) ⌝ }
 {
-    if block.len() < HEADER_BYTES {
-        return true;
-    }
-    if MOST_BYTES < block.len() {
-        return true;
-    }
-    word32(block, 0) != FORMAT
+    not_of_format(block, HEADER_BYTES, MOST_BYTES, FORMAT)
 }
 
 // Ground 2.
@@ -107,11 +103,12 @@ pub fn ids_misplaced(block: &[u8]) -> bool
     if MOST_IDS < count {
         return true;
     }
-    let at = ids_offset(block);
-    if at < HEADER_BYTES as u64 {
-        return true;
-    }
-    (block.len() as u64) < at + ID_BYTES as u64 * count
+    misplaced(
+        block,
+        HEADER_BYTES,
+        ids_offset(block),
+        ID_BYTES as u64 * count,
+    )
 }
 
 // Ground 4, of ids that lie within the block.

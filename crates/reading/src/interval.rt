@@ -1,19 +1,20 @@
 // The interval file: its words, its rows and points, and the grounds that it alone decides.
 
+use crate::common::misplaced;
+use crate::common::not_of_format;
 use words::signed;
 use words::word32;
 use words::word32_or_zero;
 ghost use mathlib.Core.Path.{_≡_};
 ghost use mathlib.Core.List.{_∷_, [], map};
-ghost use mathlib.Core.Bool.{not, _||_, _&&_};
-ghost use Prim.Native.Nat.{_+_, _-_, _*_, _≤_, _<_, _^_};
+ghost use Prim.Native.Nat.{_+_, _*_, _≤_, _<_, _^_};
 ghost use lib.ListN.{length, drop};
 ghost use lib.Dec.{ltb};
 ghost use lib.Signed.{mag};
 ghost use Rattle.words.specs.Lists.{any};
 ghost use Rattle.words.specs.Words.{word32 as wordOf, signed as signedOf};
-ghost use Rattle.words.specs.Grounds.{answered, beyond as beyondOf, liesFrom, overlap};
-ghost use Rattle.reading.specs.Interval.{curveAt, rowOf, headerOf, rowAt, rowsOf, pointOf, notAFile, headerOutside, tablesMisplaced, rowOutside, pointOutside, falls as fallsOf, pointsOutside};
+ghost use Rattle.words.specs.Grounds.{beyond as beyondOf, overlap};
+ghost use Rattle.reading.specs.Interval.{headerOf, pointOf, rowAt, curveAt, rowOf, notAFile, headerOutside, tablesMisplaced, rowOutside, pointOutside, falls as fallsOf, curveMisplaced, pointRefused, scanned};
 
 const HEADER_BYTES: usize = 40;
 
@@ -140,13 +141,7 @@ fn beyond(w: u64, most: u64) -> bool
 pub fn not_a_file(file: &[u8]) -> bool
     ensures { λ r. ⌜ r ≡ notAFile (now (file .entry)) ⌝ }
 {
-    if file.len() < HEADER_BYTES {
-        return true;
-    }
-    if MOST_BYTES < file.len() {
-        return true;
-    }
-    word(file, FORMAT) != FILE_FORMAT
+    not_of_format(file, HEADER_BYTES, MOST_BYTES, FILE_FORMAT)
 }
 
 // Ground 9.
@@ -163,20 +158,8 @@ pub fn header_outside(file: &[u8]) -> bool
     beyond(header_word(file, IMPORTS), MOST_IMPORTS)
 }
 
-// Whether so many bytes at an offset leave bytes 40 to the file's end.
-fn leaves(file: &[u8], at: u64, bytes: u64) -> bool
-    requires { ⌜ at < 4294967296 ⌝ }
-    requires { ⌜ bytes < 4294967296 ⌝ }
-    ensures { λ r. ⌜ r ≡ not (liesFrom 40 (length (now (file .entry))) at bytes) ⌝ }
-{
-    if at < HEADER_BYTES as u64 {
-        return true;
-    }
-    (file.len() as u64) < at + bytes
-}
-
 // Whether two stretches of m and n bytes share a byte.
-fn share(a: u64, m: u64, b: u64, n: u64) -> bool
+fn overlapping(a: u64, m: u64, b: u64, n: u64) -> bool
     requires { ⌜ a + m < 8589934592 ⌝ }
     requires { ⌜ b + n < 8589934592 ⌝ }
     ensures { λ r. ⌜ r ≡ overlap a m b n ⌝ }
@@ -210,15 +193,15 @@ pub fn tables_misplaced(file: &[u8]) -> bool
     }
     let a = header_word(file, ROWS_OFFSET);
     let m = ROW_BYTES as u64 * rows;
-    if leaves(file, a, m) {
+    if misplaced(file, HEADER_BYTES, a, m) {
         return true;
     }
     let b = header_word(file, POINTS_OFFSET);
     let n = POINT_BYTES as u64 * points;
-    if leaves(file, b, n) {
+    if misplaced(file, HEADER_BYTES, b, n) {
         return true;
     }
-    share(a, m, b, n)
+    overlapping(a, m, b, n)
 }
 
 // Whether a word of a row that counts kW, and is not signed, is too high.
@@ -280,9 +263,7 @@ pub fn row_outside(row: &[u8]) -> bool
 // Whether the points of the row at the front of a part of a file are too many, or reach beyond the table.
 fn curve_misplaced(row: &[u8], points: u64) -> bool
     requires { ⌜ 56 ≤ length (now row) ⌝ }
-    ensures { λ r.
-        let b = now (row .entry) in
-        ⌜ r ≡ (ltb 10 (wordOf b 13) || (ltb 0 (wordOf b 13) && ltb points (wordOf b 12 + wordOf b 13))) ⌝ }
+    ensures { λ r. ⌜ r ≡ curveMisplaced points (rowAt (now (row .entry)) []) ⌝ }
 {
     let count = word(row, POINT_COUNT);
     if MOST_ROW_POINTS < count {
@@ -321,10 +302,7 @@ fn falls(point: &[u8], next: &[u8]) -> bool
 // Whether point j of a curve is out of range, or falls from the one before it.
 fn point_refused(curve: &[u8], j: usize) -> bool
     requires { ⌜ 8 * j + 8 ≤ length (now curve) ⌝ }
-    ensures { λ r.
-        let last = pointOf (drop (8 * (j - 1)) (now (curve .entry))) in
-        let point = pointOf (drop (8 * j) (now (curve .entry))) in
-        ⌜ r ≡ (pointOutside point || (ltb 0 j && fallsOf (last ∷ point ∷ []))) ⌝ }
+    ensures { λ r. ⌜ r ≡ pointRefused (now (curve .entry)) j ⌝ }
 {
     if point_outside(&curve[POINT_BYTES * j..]) {
         return true;
@@ -340,9 +318,7 @@ pub fn scan(file: &[u8]) -> u32
     requires { ⌜ 40 ≤ length (now file) ⌝ }
     requires { ⌜ headerOf (now file) .rowsOffset + 56 * headerOf (now file) .rowCount ≤ length (now file) ⌝ }
     requires { ⌜ headerOf (now file) .pointsOffset + 8 * headerOf (now file) .pointCount ≤ length (now file) ⌝ }
-    ensures { λ r.
-        let f = now (file .entry) in
-        ⌜ r ≡ answered ((any rowOutside (rowsOf f), 13) ∷ (any (pointsOutside (headerOf f .pointCount)) (rowsOf f), 14) ∷ []) ⌝ }
+    ensures { λ r. ⌜ r ≡ scanned (now (file .entry)) ⌝ }
 {
     let rows = word(file, ROWS) as usize;
     let first = word(file, ROWS_OFFSET) as usize;

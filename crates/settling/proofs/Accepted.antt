@@ -12,7 +12,7 @@ use Rattle.words.proofs.Tests.{facts}
 use Rattle.words.proofs.Lists.{none-passes}
 use Rattle.words.proofs.Grounds.{none-applies}
 use Rattle.reading.specs.Interval.{mostRows, Row, headerOf, rowsOf, headerOutside, tablesMisplaced, rowOutside}
-use Rattle.reading.proofs.Bounds.{HeaderIn, header-in, rows-few, length-rows, RowIn, rows-in}
+use Rattle.reading.proofs.Bounds.{HeaderIn, header-in, tables-in, length-rows, RowIn, rows-in}
 use Rattle.assessment.specs.Assessment.{pool}
 use Rattle.ledger.proofs.Sound.{ground-zero, LedgerIn, ledger-in}
 use Rattle.ledger.specs.Ledger.{mostCents, Ledger, ledgerOf, idsIn, notALedger}
@@ -72,7 +72,7 @@ accepted ledger file result e =
       ledger-is = ledger-in ledger g6;
       header = header-in (headerOf file) g9;
       days = same-days ledger file g8;
-      rows-few = omega (arith, n, rows-few file g11);
+      rows-few = omega (arith, n, tables-in file g11 .rows);
       ids-rise = rows-rise (ledgerOf ledger) (rowsOf file) g12;
       ids-known = rows-known (ledgerOf ledger) (rowsOf file) g12;
       rows = rows-in (rowsOf file) g13;

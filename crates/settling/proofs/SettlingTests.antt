@@ -13,9 +13,9 @@ use Rattle.words.specs.Grounds.{answered}
 use Rattle.words.proofs.Tests.{facts, not-first, not-second}
 use Rattle.words.proofs.Grounds.{none-applies}
 use Rattle.reading.specs.Block.{idsOutOfOrder}
-use Rattle.reading.specs.Interval.{rowBytes, headerOf, rowAt, rowOf, rowsOf, notAFile, headerOutside, tablesMisplaced, rowOutside, pointsOutside}
+use Rattle.reading.specs.Interval.{rowBytes, headerOf, rowAt, rowOf, rowsOf, notAFile, headerOutside, tablesMisplaced, rowOutside, pointsOutside, scanned}
 use Rattle.reading.proofs.Bounds.{ids-rise, file-has-header, tables-in}
-use Rattle.reading.proofs.Walk.{rowPart, row-part, rowsLeft, rows-start, rows-turn, rows-end, scanned}
+use Rattle.reading.proofs.Walk.{rowPart, row-part, rowsLeft, rows-start, rows-turn, rows-end, scanned-none}
 use Rattle.assessment.proofs.SumLaws.{partFrom}
 use Rattle.ledger.specs.Ledger.{ledgerBytes, accountAt, accountCount, ledgerOf, idsIn, accountOutside, notALedger}
 use Rattle.settling.specs.Settling.{resultHeaderBytes, resultRowBytes, assessedFile, otherTerms, tooEarly, rowIdsUnknown, resultTooShort, poolTooLarge, settlingGrounds, settling}
@@ -52,13 +52,6 @@ answered-rest (suc n) (g ∷ gs) k e = by (g .0) e (answered-rest n gs (not-seco
         → cond t (g .1) (answered gs) ≡ answered (drop n gs)
     by true q later = absurd (numbered q)
     by false q later = later q
-
--- grounds 13 and 14, from one scan
-scanned-none : (f : List ℕ) → scanned f ≡ 0 → (any rowOutside (rowsOf f) ≡ false) × (any (pointsOutside (headerOf f .pointCount)) (rowsOf f) ≡ false)
-unfolding any
-scanned-none f e =
-    let none = none-applies ((any rowOutside (rowsOf f), 13) ∷ (any (pointsOutside (headerOf f .pointCount)) (rowsOf f), 14) ∷ []) refl e in
-    (search facts, search facts)
 
 -- the accounts of a ledger that ground 6 does not refuse
 accounts-in : (l : List ℕ) → notALedger l ≡ false → any (accountOutside (ledgerOf l .terms)) (ledgerOf l .accounts) ≡ false

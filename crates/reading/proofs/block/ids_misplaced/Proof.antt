@@ -1,8 +1,8 @@
 -- `reading::block::ids_misplaced` meets its contract. Each test is one of the ground.
-use mathlib.Core.Path.{sym}
+use mathlib.Core.Path.{sym, _∙_}
 use native.Mathlib.Omega.{arith}
 use borrow.Author.Needs.{needs}
-use Rattle.reading.proofs.BlockTests.{ids-none, ids-many, ids-early, ids-late}
+use Rattle.reading.proofs.BlockTests.{ids-none, ids-many, ids-left}
 use Rattle.reading.proofs.block.ids_misplaced.Statement.{statement}
 use Rattle.reading.proofs.block.ids_misplaced.Tie as tie
 
@@ -18,17 +18,16 @@ returns-2 c = sym (ids-many _ _ (c .before .before .id-count .ensures .0) (omega
 ids-offset-requires : tie.Need-ids-offset-requires
 ids-offset-requires c κs = search needs
 
+mul-misplaced : tie.Need-mul-misplaced
+mul-misplaced c = search needs
+
+misplaced-requires : tie.Need-misplaced-requires
+misplaced-requires c κs = search needs
+
 returns-3 : tie.Need-returns-3
-returns-3 c = sym (ids-early _ _ (c .before .before .before .before .id-count .ensures .0) _ (c .before .ids-offset .ensures .0) (omega arith) (omega arith) (omega arith))
-
-mul-result : tie.Need-mul-result
-mul-result c = search needs
-
-add-result : tie.Need-add-result
-add-result c = search needs
-
-returns-4 : tie.Need-returns-4
-returns-4 c = sym (ids-late _ _ (c .before .before .before .before .id-count .ensures .0) _ (c .before .ids-offset .ensures .0) (omega arith) (omega arith) (omega arith))
+returns-3 c =
+    c .misplaced .ensures
+    ∙ sym (ids-left _ _ (c .before .before .before .before .id-count .ensures .0) _ (c .before .ids-offset .ensures .0) (omega arith) (omega arith))
 
 pub ids-misplaced-spec : {M : Type 1} → statement M
 ids-misplaced-spec =
@@ -38,7 +37,6 @@ ids-misplaced-spec =
     returns
     returns-2
     ids-offset-requires
-    returns-3
-    mul-result
-    add-result
-    returns-4)
+    mul-misplaced
+    misplaced-requires
+    returns-3)

@@ -1,21 +1,18 @@
 -- `reading::interval::scan` meets its contract. What is left to test are the rows from i on for ground 13, then those from k on, and in row k the points from j on, for 14.
 use Prim.Native.Nat.{ℕ, _+_, _-_, _*_, _≤_}
 use mathlib.Core.Path.{_≡_, sym, ap, ap₂, _∙_}
-use mathlib.Core.List.{List, []}
-use mathlib.Core.Bool.{Bool, false, _||_}
+use mathlib.Core.List.{[]}
+use mathlib.Core.Bool.{false, _||_}
 use native.Mathlib.Omega.{arith}
 use lib.ListN.{length}
 use Rattle.words.specs.Lists.{any}
 use Rattle.words.specs.Words.{word32}
 use Rattle.words.proofs.Lists.{any-end}
-use Rattle.reading.specs.Interval.{Row, headerOf, rowAt, pointsFrom, rowsOf, rowOutside, pointsOutside}
-use Rattle.reading.proofs.CurveTests.{misplaced, points-within, refused}
-use Rattle.reading.proofs.Walk.{curveLeft, Curve, curve-part, rowPart, row-part, rowsLeft, rows-start, rows-end, row-turn, row-fails, curve-fails, curve-begins, all-pass, point-fails, point-passes, curve-passes}
+use Rattle.reading.specs.Interval.{headerOf, rowAt, pointsFrom, rowsOf, rowOutside, curveMisplaced, pointRefused}
+use Rattle.reading.proofs.CurveTests.{points-room}
+use Rattle.reading.proofs.Walk.{fails, curveLeft, Curve, curve-part, rowPart, row-part, rowsLeft, rows-start, rows-end, row-turn, row-fails, curve-fails, curve-begins, all-pass, point-fails, point-passes, curve-passes}
 use Rattle.reading.proofs.interval.scan.Statement.{statement}
 use Rattle.reading.proofs.interval.scan.Tie as tie
-
-abbrev faults : List ℕ → List Row → Bool
-faults file = any (pointsOutside (headerOf file .pointCount))
 
 abbrev Inv-loop : tie.InvT-loop
 Inv-loop file rows first points table i₀ i = (i ≤ rows) × (any rowOutside (rowsOf file) ≡ any rowOutside (rowsLeft file i))
@@ -27,13 +24,13 @@ abbrev Inv-loop3 : tie.InvT-loop3
 Inv-loop3 file rows first points table i k row count curve j₀ j =
     let b = rowPart file k in
     (j ≤ count) × Curve file k count curve
-    × (faults file (rowsOf file) ≡ (curveLeft (word32 b 13) (pointsFrom file (word32 b 12)) j || faults file (rowsLeft file (k + 1))))
+    × (any (fails file) (rowsOf file) ≡ (curveLeft (word32 b 13) (pointsFrom file (word32 b 12)) j || any (fails file) (rowsLeft file (k + 1))))
 
 abbrev μ-loop3 : tie.MeasureT-loop3
 μ-loop3 file rows first points table i k row count curve j₀ j = count - j
 
 abbrev Inv-loop2 : tie.InvT-loop2
-Inv-loop2 file rows first points table i k₀ k = (k ≤ rows) × (any rowOutside (rowsOf file) ≡ false) × (faults file (rowsOf file) ≡ faults file (rowsLeft file k))
+Inv-loop2 file rows first points table i k₀ k = (k ≤ rows) × (any rowOutside (rowsOf file) ≡ false) × (any (fails file) (rowsOf file) ≡ any (fails file) (rowsLeft file k))
 
 abbrev μ-loop2 : tie.MeasureT-loop2
 μ-loop2 file rows first points table i k₀ k = rows - k
@@ -104,7 +101,7 @@ loop2-holds : tie.Need-loop2-holds Inv-loop μ-loop Inv-loop3 μ-loop3 Inv-loop2
 unfolding headerOf
 loop2-holds c =
     let f = c .before .before .before .before .before .before .before .before .args .file .now in
-    (omega arith, any-end rowOutside (c .before .loop .inv .1) (rows-end f (c .before .loop .i) (omega arith)), ap (faults f) (rows-start f))
+    (omega arith, any-end rowOutside (c .before .loop .inv .1) (rows-end f (c .before .loop .i) (omega arith)), ap (any (fails f)) (rows-start f))
 
 mul-row : tie.Need-mul-row Inv-loop μ-loop Inv-loop3 μ-loop3 Inv-loop2 μ-loop2 Inv-scan μ-scan
 mul-row c = omega arith
@@ -164,18 +161,18 @@ add-curve : tie.Need-add-curve Inv-loop μ-loop Inv-loop3 μ-loop3 Inv-loop2 μ-
 add-curve c = omega arith
 
 loop3-holds : tie.Need-loop3-holds Inv-loop μ-loop Inv-loop3 μ-loop3 Inv-loop2 μ-loop2 Inv-scan μ-scan
-unfolding headerOf
+unfolding headerOf rowAt
 loop3-holds c =
     let l = c .before .before .before .before .before .before .before .before in
     let w = l .before .before .before .before in
     let f = w .before .before .before .before .before .args .file .now in
     let k = l .loop2 .k in
     let part = row-part f k (w .before .before .word2 .ensures .0) in
-    let says = ap₂ (λ b n. misplaced (word32 b 13) (word32 b 12) n) (sym part) (sym (w .before .word3 .ensures .0)) ∙ sym (c .before .before .before .before .before .curve-misplaced .ensures) in
+    let says = ap₂ (λ b n. curveMisplaced n (rowAt b [])) (sym part) (sym (w .before .word3 .ensures .0)) ∙ sym (c .before .before .before .before .before .curve-misplaced .ensures) in
     let in-place = says ∙ c .before .before .before .before .if2 .left in
     let number = c .before .before .word5 .ensures .0 ∙ ap (λ b. word32 b 13) part in
     let first = c .word6 .ensures .0 ∙ ap (λ b. word32 b 12) part in
-    let within = points-within (word32 (rowPart f k) 13) (word32 (rowPart f k) 12) (headerOf f .pointCount) (headerOf f .pointsOffset) (length f) in-place (omega arith) in (
+    let within = points-room (headerOf f .pointCount) (rowAt (rowPart f k) []) (headerOf f .pointsOffset) (length f) in-place (omega arith) in (
       omega arith,
       record {
         number = number;
@@ -211,7 +208,7 @@ loop3-again c =
     let k = q .loop2 .k in
     let j = l .loop3 .j in
     let r = l .loop3 .inv .1 in
-    let says = ap (λ b. refused b j) (sym (curve-part f r)) ∙ sym (c .before .point-refused .ensures) in
+    let says = ap (λ b. pointRefused b j) (sym (curve-part f r)) ∙ sym (c .before .point-refused .ensures) in
     (omega arith, r, point-passes f k (q .loop2 .inv .1) j (l .loop3 .inv .2) (omega (arith, r .number)) (says ∙ c .if3 .left))
 
 add-k : tie.Need-add-k Inv-loop μ-loop Inv-loop3 μ-loop3 Inv-loop2 μ-loop2 Inv-scan μ-scan
@@ -249,7 +246,7 @@ returns-2 c =
     let f = w .before .before .before .before .before .args .file .now in
     let k = l .loop2 .k in
     let part = row-part f k (w .before .before .word2 .ensures .0) in
-    let says = ap₂ (λ b n. misplaced (word32 b 13) (word32 b 12) n) (sym part) (sym (w .before .word3 .ensures .0)) ∙ sym (c .before .curve-misplaced .ensures) in
+    let says = ap₂ (λ b n. curveMisplaced n (rowAt b [])) (sym part) (sym (w .before .word3 .ensures .0)) ∙ sym (c .before .curve-misplaced .ensures) in
     sym (curve-fails f k (l .loop2 .inv .1) (l .loop2 .inv .2) (omega arith) (says ∙ c .if2 .taken))
 
 returns-3 : tie.Need-returns-3 Inv-loop μ-loop Inv-loop3 μ-loop3 Inv-loop2 μ-loop2 Inv-scan μ-scan
@@ -260,7 +257,7 @@ returns-3 c =
     let k = q .loop2 .k in
     let j = l .loop3 .j in
     let r = l .loop3 .inv .1 in
-    let says = ap (λ b. refused b j) (sym (curve-part f r)) ∙ sym (c .before .point-refused .ensures) in
+    let says = ap (λ b. pointRefused b j) (sym (curve-part f r)) ∙ sym (c .before .point-refused .ensures) in
     sym (point-fails f k (q .loop2 .inv .1) j (l .loop3 .inv .2) (omega (arith, r .number)) (says ∙ c .if3 .taken))
 
 returns-4 : tie.Need-returns-4 Inv-loop μ-loop Inv-loop3 μ-loop3 Inv-loop2 μ-loop2 Inv-scan μ-scan

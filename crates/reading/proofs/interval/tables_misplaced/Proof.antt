@@ -26,13 +26,13 @@ header-word-requires-3 c κs = omega arith
 mul-m : tie.Need-mul-m
 mul-m c = omega arith
 
-leaves-requires : tie.Need-leaves-requires
-leaves-requires c κs = omega arith
+misplaced-requires : tie.Need-misplaced-requires
+misplaced-requires c κs = omega arith
 
 returns-4 : tie.Need-returns-4
 returns-4 c =
     let rows = c .before .before .before .before .before .before .before .header-word .ensures .0 in
-    sym (rows-leave _ _ _ (c .before .before .header-word3 .ensures .0) rows (sym (c .before .leaves .ensures) ∙ c .if4 .taken))
+    sym (rows-leave _ _ _ (c .before .before .header-word3 .ensures .0) rows (sym (c .before .misplaced .ensures) ∙ c .if4 .taken))
 
 header-word-requires-4 : tie.Need-header-word-requires-4
 header-word-requires-4 c κs = omega arith
@@ -40,16 +40,16 @@ header-word-requires-4 c κs = omega arith
 mul-n : tie.Need-mul-n
 mul-n c = omega arith
 
-leaves-requires-2 : tie.Need-leaves-requires-2
-leaves-requires-2 c κs = omega arith
+misplaced-requires-2 : tie.Need-misplaced-requires-2
+misplaced-requires-2 c κs = omega arith
 
 returns-5 : tie.Need-returns-5
 returns-5 c =
     let points = c .before .before .before .before .before .before .before .header-word2 .ensures .0 in
-    sym (points-leave _ _ _ (c .before .before .header-word4 .ensures .0) points (sym (c .before .leaves2 .ensures) ∙ c .if5 .taken))
+    sym (points-leave _ _ _ (c .before .before .header-word4 .ensures .0) points (sym (c .before .misplaced2 .ensures) ∙ c .if5 .taken))
 
-share-requires : tie.Need-share-requires
-share-requires c κs = omega arith
+overlapping-requires : tie.Need-overlapping-requires
+overlapping-requires c κs = omega arith
 
 returns-6 : tie.Need-returns-6
 returns-6 c =
@@ -57,9 +57,9 @@ returns-6 c =
     let e4 = e5 .before .before .before in
     let rows = e4 .before .before .before .before .before .before .before .header-word .ensures .0 in
     let points = e4 .before .before .before .before .header-word2 .ensures .0 in
-    let rows-lie = sym (e4 .before .leaves .ensures) ∙ e4 .if4 .left in
-    let points-lie = sym (e5 .before .leaves2 .ensures) ∙ e5 .if5 .left in
-    c .share .ensures
+    let rows-lie = sym (e4 .before .misplaced .ensures) ∙ e4 .if4 .left in
+    let points-lie = sym (e5 .before .misplaced2 .ensures) ∙ e5 .if5 .left in
+    c .overlapping .ensures
     ∙ sym
     (tables-left _ _ _ _ _ (e4 .before .before .header-word3 .ensures .0) rows (e5 .before .before .header-word4 .ensures .0) points (omega arith) (omega arith) (omega arith) rows-lie points-lie)
 
@@ -74,11 +74,11 @@ tables-misplaced-spec =
     returns-3
     header-word-requires-3
     mul-m
-    leaves-requires
+    misplaced-requires
     returns-4
     header-word-requires-4
     mul-n
-    leaves-requires-2
+    misplaced-requires-2
     returns-5
-    share-requires
+    overlapping-requires
     returns-6)

@@ -2,7 +2,7 @@
 use mathlib.Core.Path.{sym, _∙_}
 use borrow.Author.Needs.{needs}
 use Rattle.reading.proofs.Bounds.{file-has-header, tables-in}
-use Rattle.vectors.proofs.FileLaws.{points-right}
+use Rattle.reading.proofs.Walk.{scanned-none}
 use Rattle.vectors.proofs.cases.sides.Statement.{statement}
 use Rattle.vectors.proofs.cases.sides.Tie as tie
 
@@ -32,7 +32,7 @@ ratio-sides-requires c κs =
     let first = second .before .before in
     let tables = tables-in _ (sym (second .before .tables-misplaced .ensures) ∙ second .if2 .left) in (
       file-has-header _ (sym (first .before .not-a-file .ensures) ∙ first .if1 .left),
-      (tables .rows, (tables .rows-lie, (tables .points-lie, points-right _ _ (sym (c .before .scan .ensures) ∙ c .if3 .left)))),
+      (tables .rows, (tables .rows-lie, (tables .points-lie, scanned-none _ (sym (c .before .scan .ensures) ∙ c .if3 .left) .1))),
     )
 
 returns-4 : tie.Need-returns-4

@@ -1,9 +1,9 @@
--- `reading::interval::share` meets its contract. Each test is one of the definition.
+-- `reading::interval::overlapping` meets its contract. Each test is one of the definition.
 use mathlib.Core.Path.{sym}
 use native.Mathlib.Omega.{arith}
 use Rattle.reading.proofs.FileTests.{none-first, none-second, first-behind, second-behind}
-use Rattle.reading.proofs.interval.share.Statement.{statement}
-use Rattle.reading.proofs.interval.share.Tie as tie
+use Rattle.reading.proofs.interval.overlapping.Statement.{statement}
+use Rattle.reading.proofs.interval.overlapping.Tie as tie
 
 returns : tie.Need-returns
 returns c = sym (none-first _ _ _ _ (omega arith))
@@ -23,5 +23,5 @@ add-result c = omega arith
 returns-4 : tie.Need-returns-4
 returns-4 c = sym (second-behind _ _ _ _ (omega arith) (omega arith) (omega arith))
 
-pub share-spec : {M : Type 1} → statement M
-share-spec = tie.close (tie.spec returns returns-2 add-if3 returns-3 add-result returns-4)
+pub overlapping-spec : {M : Type 1} → statement M
+overlapping-spec = tie.close (tie.spec returns returns-2 add-if3 returns-3 add-result returns-4)
