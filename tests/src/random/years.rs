@@ -14,7 +14,7 @@ pub struct RunningYear {
     pub block: Vec<u8>,
     /// The ledger buffer before its opening.
     pub unopened: Vec<u8>,
-    pub ledger: Vec<u8>,
+    ledger: Vec<u8>,
     /// A file that comes back in later intervals, so that sums grow to the limits.
     usual: IntervalFile,
     last_file: Vec<u8>,
