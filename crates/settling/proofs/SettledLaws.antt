@@ -287,10 +287,6 @@ module _ (ledger file : List ℕ) (p : Passed ledger file) where
   unfolding carriedOn
   rest-is cents given e f = ap₂ _-_ e f
 
-  -- the credits are no more than the pool, so that taking them from it does not wrap
-  pub given-le : (cents given : ℕ) → cents ≡ pool v → given ≡ credits v → given ≤ cents
-  given-le cents given e f = omega (arith, e, f, credits-le v)
-
   -- the ratio that is printed
   pub printed-is : (ratio above below : ℕ) → above ≡ numerator (headerOf file) (rowsOf file) → below ≡ denominator (rowsOf file)
       → ratio ≡ portion (record { numerator = above; denominator = below }) 1000000 → ratio ≡ printedRatio (v .ratio)

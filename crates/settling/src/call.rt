@@ -107,7 +107,7 @@ fn write_settled(
     let bonus = Kilowatts(sum_words(rows, count as usize, BONUS));
     credit_rows(rows, count as usize, cents, bonus);
     let credits = Cents(sum_words(rows, count as usize, CREDIT));
-    let rest = Cents(cents.0 - credits.0);
+    let rest = cents.less(credits);
     let ratio = portion(MILLIONTHS, sums.numerator, sums.denominator);
     write_result(
         result,
@@ -133,7 +133,7 @@ fn settle(ledger: &mut [u8], file: &[u8], result: &mut [u8], rows: &mut [u64]) -
     ensures { λ r. ⌜ now (result .exit) ≡ settlingOf (now (ledger .entry)) (now (file .entry)) (now (result .entry)) .result ⌝ }
 {
     let sums = assess(ledger, file, rows);
-    let cents = Cents(ledger_word(ledger, CARRIED) + sums.charges.0);
+    let cents = Cents(ledger_word(ledger, CARRIED)).plus(sums.charges);
     if MOST_CENTS < cents.0 {
         return 16;
     }

@@ -1,7 +1,7 @@
 -- `settling::call::settle` meets its contract. The pool decides between ground 16, with nothing lent written, and the ledger and result of the file.
 use native.Mathlib.Omega.{arith}
 use Prim.Native.Nat.{_+_}
-use mathlib.Core.Path.{_≡_}
+use mathlib.Core.Path.{_≡_, _∙_}
 use Rattle.assessment.specs.Assessment.{pool}
 use Rattle.ledger.specs.Ledger.{ledgerBytes, ledgerOf}
 use Rattle.settling.specs.Settling.{assessedFile}
@@ -30,10 +30,9 @@ word-requires : tie.Need-word-requires
 unfolding ledgerBytes
 word-requires c κs = omega (arith, passed _ _ _ (c .before .before .before .before .before .before .before .before .before .before .pre .0) .room)
 
-add-t14 : tie.Need-add-t14
+plus-requires : tie.Need-plus-requires
 unfolding ledgerOf
-add-t14 c =
-    let word = c .before in
+plus-requires word κs =
     let charged = word .before .before .before .before in
     let pre = charged .before .before .before .before .before .before .before .pre in
     let small = carried-in _ _ _ (pre .0) in
@@ -47,17 +46,19 @@ same-length-2 c = search needs
 
 returns : tie.Need-returns
 returns c =
-    let word = c .before .before .before in
-    end-16 _ _ _ _ (word .before .before .before .before .before .before .before .before .before .before .before .pre .0) (pool-is word) (c .if1 .taken)
+    let sum = c .before .before in
+    let word = sum .before in
+    end-16 _ _ _ _ (word .before .before .before .before .before .before .before .before .before .before .before .pre .0) (sum .plus .ensures ∙ pool-is word) (c .if1 .taken)
 
 write-settled-requires : tie.Need-write-settled-requires
 write-settled-requires c κs =
     let test = c .before .before .before in
-    let word = test .before .before .before in
+    let sum = test .before .before in
+    let word = sum .before in
     let charged = word .before .before .before .before in
     let pre = charged .before .before .before .before .before .before .before .pre in
     let sums = charged .assess .ensures in
-    (passed _ _ _ (pre .0), (result-room _ _ _ (pre .0), (sums .0, (sums .1 .0, (sums .1 .1 .0, (sums .1 .1 .1, (pool-is word, omega (arith, test .if1 .left))))))))
+    (passed _ _ _ (pre .0), (result-room _ _ _ (pre .0), (sums .0, (sums .1 .0, (sums .1 .1 .0, (sums .1 .1 .1, (sum .plus .ensures ∙ pool-is word, omega (arith, test .if1 .left))))))))
 
 same-length-3 : tie.Need-same-length-3
 same-length-3 c = search needs
@@ -72,8 +73,9 @@ returns-2 : tie.Need-returns-2
 returns-2 c =
     let put = c .before .before .before .before .before .before in
     let test = put .before .before .before .before in
-    let word = test .before .before .before in
-    end-settled _ _ _ _ _ _ (word .before .before .before .before .before .before .before .before .before .before .before .pre .0) (pool-is word) (omega (arith, test .if1 .left)) (put .write-settled .ensures .0) (put .write-settled .ensures .1)
+    let sum = test .before .before in
+    let word = sum .before in
+    end-settled _ _ _ _ _ _ (word .before .before .before .before .before .before .before .before .before .before .before .pre .0) (sum .plus .ensures ∙ pool-is word) (omega (arith, test .if1 .left)) (put .write-settled .ensures .0) (put .write-settled .ensures .1)
 
 pub settle-spec : {M : Type 1} → statement M
 settle-spec =
@@ -81,7 +83,7 @@ settle-spec =
     (tie.spec
     assess-requires
     word-requires
-    add-t14
+    plus-requires
     same-length
     same-length-2
     returns

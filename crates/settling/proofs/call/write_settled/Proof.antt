@@ -6,7 +6,7 @@ use lib.ListN.{getD}
 use Rattle.reading.specs.Interval.{headerOf}
 use Rattle.assessment.specs.Assessment.{credit, credits}
 use Rattle.settling.specs.Settling.{rowWords, assessedFile}
-use Rattle.settling.proofs.SettledLaws.{numerator-fits, each-word, words-long, bonus-is, bonus-required, credit-required, credited-is, credits-are, credits-required, rest-is, given-le, printed-is, result-written}
+use Rattle.settling.proofs.SettledLaws.{numerator-fits, each-word, words-long, bonus-is, bonus-required, credit-required, credited-is, credits-are, credits-required, rest-is, printed-is, result-written}
 use borrow.Author.Needs.{needs}
 use Rattle.settling.proofs.call.write_settled.Statement.{statement}
 use Rattle.settling.proofs.call.write_settled.Tie as tie
@@ -56,21 +56,18 @@ sum-words-requires-2 c κs =
     let pre = word .before .before .before .before .before .pre in
     credits-required _ _ (pre .0) _ _ (word .word .ensures .0) (with-credits rows) (omega (arith, pre .1 .1 .1 .1 .1 .1 .0, pre .1 .1 .1 .1 .1 .1 .1))
 
-sub-t12 : tie.Need-sub-t12
-sub-t12 c =
-    let credited = c .before .before in
-    let pre = credited .before .before .before .before .before .before .before .before .before .before .before .before .before .pre in
-    given-le _ _ (pre .0) _ _ (pre .1 .1 .1 .1 .1 .1 .0) (given credited)
+less-requires : tie.Need-less-requires
+less-requires c κs = search needs
 
 portion-requires : tie.Need-portion-requires
 portion-requires c κs =
-    let pre = c .before .before .before .before .before .before .before .before .before .before .before .before .before .before .before .pre in
+    let pre = c .before .before .before .before .before .before .before .before .before .before .before .before .before .before .pre in
     (omega arith, subst (λ n. n ≤ 2 ^ 40) (sym (pre .1 .1 .1 .0)) (numerator-fits _ _ (pre .0)))
 
 write-result-requires : tie.Need-write-result-requires
 unfolding headerOf
 write-result-requires c κs =
-    let rows = c .before .before .before .before .before .before .before .before .before in
+    let rows = c .before .before .before .before .before .before .before .before in
     let word = rows .before .before .before .before in
     let pre = word .before .before .before .before .before .pre in
     let n = word .word .ensures .0 in
@@ -78,13 +75,14 @@ write-result-requires c κs =
 
 write-ledger-requires : tie.Need-write-ledger-requires
 write-ledger-requires c κs =
-    let credited = c .before .before .before .before .before .before .before .before .before .before in
+    let rest = c .before .before .before .before .before .before .before .before in
+    let credited = c .before .before .before .before .before .before .before .before .before in
     let rows = credited .before .before .before .before in
     let pre = rows .before .before .before .before .before .before .before .before .before .pre in
     let cents = pre .1 .1 .1 .1 .1 .1 .0 in
     let words = with-credits rows in
     let each = each-word _ _ (pre .0) (omega (arith, cents, pre .1 .1 .1 .1 .1 .1 .1)) in
-    (pre .0, (words, (λ k. subst (λ ws. getD ws k 0 ≤ 1099511627775) (sym words) (each k), rest-is _ _ (pre .0) _ _ cents (given credited))))
+    (pre .0, (words, (λ k. subst (λ ws. getD ws k 0 ≤ 1099511627775) (sym words) (each k), rest .less .ensures ∙ rest-is _ _ (pre .0) _ _ cents (given credited))))
 
 same-length : tie.Need-same-length
 same-length c = search needs
@@ -100,7 +98,8 @@ unfolding headerOf
 returns c =
     let put = c .before .before .before .before .before .before .before in
     let ratio = put .before .before .before in
-    let credited = ratio .before .before .before in
+    let rest = ratio .before in
+    let credited = ratio .before .before in
     let rows = credited .before .before .before .before in
     let sums = rows .before .before in
     let word = sums .before .before in
@@ -110,7 +109,7 @@ returns c =
     let cents = pre .1 .1 .1 .1 .1 .1 .0 in
     let printed = printed-is _ _ p _ _ _ (pre .1 .1 .1 .0) (pre .1 .1 .1 .1 .0) (ratio .portion .ensures) in
     let bonus = sums .sum-words .ensures ∙ bonus-is _ _ p _ _ n _ (pre .1 .1 .0) in
-    (c .before .before .write-ledger .ensures, result-written _ _ p _ _ _ _ _ _ _ _ _ _ _ printed (pre .1 .1 .1 .1 .1 .0) (given credited) (rest-is _ _ p _ _ cents (given credited)) bonus (pre .1 .1 .1 .0) (pre .1 .1 .1 .1 .0) n (with-credits rows) (put .write-result .ensures))
+    (c .before .before .write-ledger .ensures, result-written _ _ p _ _ _ _ _ _ _ _ _ _ _ printed (pre .1 .1 .1 .1 .1 .0) (given credited) (rest .less .ensures ∙ rest-is _ _ p _ _ cents (given credited)) bonus (pre .1 .1 .1 .0) (pre .1 .1 .1 .1 .0) n (with-credits rows) (put .write-result .ensures))
 
 pub write-settled-spec : {M : Type 1} → statement M
 write-settled-spec =
@@ -120,7 +119,7 @@ write-settled-spec =
     sum-words-requires
     credit-rows-requires
     sum-words-requires-2
-    sub-t12
+    less-requires
     portion-requires
     write-result-requires
     write-ledger-requires
