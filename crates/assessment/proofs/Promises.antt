@@ -4,7 +4,6 @@ use mathlib.Core.Path.{_≡_}
 use mathlib.Core.Logic.{_⊎_, inl, inr, ⊎-elim}
 use mathlib.Core.List.{List, List·Memᴰ}
 use mathlib.Core.Bool.{Bool, true, false, cond}
-use native.Mathlib.Nat.{mul-le-mul-right}
 use native.Mathlib.Decide.{decLe}
 use native.Mathlib.Omega.{arith}
 use lib.ListN.{length}
@@ -156,8 +155,7 @@ unfolding numerator numeratorShare
 numerator-le h rs i few rows =
     let each : (r : Row) → List·Memᴰ r rs → numeratorShare r ≤ 2 * mostKilowatts
     = λ r m. omega (arith, if-le r (numeratorShareAs (kindOf (r .kind)) r), share-le (kindOf (r .kind)) r, actual-le r (rows r m)) in
-    let all = sum-most numeratorShare (2 * mostKilowatts) rs each in
-    omega (arith, all, mul-le-mul-right (2 * mostKilowatts) few, imports-le h, i .imports)
+    omega (arith, sum-most numeratorShare (2 * mostKilowatts) mostRows rs few each, imports-le h, i .imports)
 
 -- a row adds at most its committed kW to the denominator
 denominator-share-le : (k : Kind) (r : Row) → denominatorShareAs k r ≤ r .committed
@@ -170,4 +168,4 @@ unfolding denominatorShare denominator
 denominator-le rs few rows =
     let each : (r : Row) → List·Memᴰ r rs → denominatorShare r ≤ mostKilowatts
     = λ r m. omega (arith, denominator-share-le (kindOf (r .kind)) r, rows r m .committed) in
-    omega (arith, sum-most denominatorShare mostKilowatts rs each, mul-le-mul-right mostKilowatts few)
+    sum-most denominatorShare mostKilowatts mostRows rs few each

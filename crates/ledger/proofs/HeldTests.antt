@@ -97,15 +97,15 @@ module _ (b : List ℕ) where
     pub charged-sum : sum (λ a. a .charged) (ledgerOf b .accounts) ≤ mostIds * mostLimit
     charged-sum =
         let t = ledgerOf b .terms in
-        let all = sum-most (λ a. a .charged) mostLimit (ledgerOf b .accounts) (λ a m. charged-low t a (record { netCone = cone; days = days }) (none-passes (accountOutside t) m none)) in
-        omega (arith, all, length-accounts b, few)
+        sum-most (λ a. a .charged) mostLimit mostIds (ledgerOf b .accounts) (omega (arith, length-accounts b, few))
+        (λ a m. charged-low t a (record { netCone = cone; days = days }) (none-passes (accountOutside t) m none))
 
     -- the credited sums come to no more than the largest credited sum for each of the most accounts
     pub credited-sum : sum (λ a. a .credited) (ledgerOf b .accounts) ≤ mostIds * mostCredited
     credited-sum =
         let t = ledgerOf b .terms in
-        let all = sum-most (λ a. a .credited) mostCredited (ledgerOf b .accounts) (λ a m. account-in t a (none-passes (accountOutside t) m none) .credited) in
-        omega (arith, all, length-accounts b, few)
+        sum-most (λ a. a .credited) mostCredited mostIds (ledgerOf b .accounts) (omega (arith, length-accounts b, few))
+        (λ a m. account-in t a (none-passes (accountOutside t) m none) .credited)
 
   -- the sums, and carried
   pub sums-test : (charged credited carried : ℕ) → charged ≡ sum (λ a. a .charged) (ledgerOf b .accounts) → credited ≡ sum (λ a. a .credited) (ledgerOf b .accounts)

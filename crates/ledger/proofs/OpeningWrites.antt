@@ -1,7 +1,7 @@
 -- The accounts of a new ledger, written one after the other.
 use Prim.Native.Nat.{ℕ, _+_, _*_, _≤_, _<_}
 use mathlib.Core.Path.{_≡_, sym, ap, _∙_}
-use mathlib.Core.List.{List, [], _∷_, _++_, map}
+use mathlib.Core.List.{List, [], _∷_, map}
 use native.Mathlib.Omega.{arith}
 use lib.ListN.{length, drop, getD, length-map, drop-of-length-le}
 use Rattle.words.specs.Words.{bytesOfWords, placedAt, written, writtenAt}

@@ -11,24 +11,27 @@ use Rattle.words.specs.Grounds.{answered}
 use Rattle.words.proofs.Tests.{facts}
 use Rattle.words.proofs.Lists.{none-passes}
 use Rattle.words.proofs.Grounds.{none-applies}
-use Rattle.reading.specs.Interval.{mostRows, Row, headerOf, rowsOf, headerOutside, tablesMisplaced, rowOutside}
-use Rattle.reading.proofs.Bounds.{HeaderIn, header-in, tables-in, length-rows, RowIn, rows-in}
+use Rattle.reading.specs.Interval.{mostRows, Row, headerOf, rowsOf}
+use Rattle.reading.proofs.Bounds.{HeaderIn, header-in, length-rows, RowIn, rows-in}
 use Rattle.assessment.specs.Assessment.{pool}
 use Rattle.ledger.proofs.Sound.{ground-zero, LedgerIn, ledger-in}
 use Rattle.ledger.specs.Ledger.{mostCents, Ledger, ledgerOf, idsIn, notALedger}
-use Rattle.settling.specs.Settling.{resultHeaderBytes, resultRowBytes, assessedFile, otherTerms, rowIdsUnknown, resultTooShort, poolTooLarge, settlingGrounds, SettlingAnswer, settling}
+use Rattle.settling.specs.Settling.{resultHeaderBytes, resultRowBytes, assessedFile, otherTerms, rowIdsUnknown, poolTooLarge, settlingGrounds, SettlingAnswer, settling}
+use Rattle.settling.specs.Scratch.{Passed}
+use Rattle.settling.proofs.SettlingTests.{unrefused, passed, none-before}
 
 -- a ledger, a file and a result buffer that settling accepts
 pub record Accepted (ledger file result : List ℕ) : Type 0 where
   pub ledger-holds : notALedger ledger ≡ false
   pub ledger-is : LedgerIn (ledgerOf ledger)
+  pub passed : Passed ledger file
   pub header : HeaderIn (headerOf file)
   pub days : headerOf file .terms .days ≡ ledgerOf ledger .terms .days
   pub rows-few : length (rowsOf file) ≤ mostRows
   pub ids-rise : rises (map (λ r. r .id) (rowsOf file)) ≡ true
   pub ids-known : (r : Row) → List·Memᴰ r (rowsOf file) → any (λ id. eqb id (r .id)) (idsIn (ledgerOf ledger)) ≡ true
   pub rows : (r : Row) → List·Memᴰ r (rowsOf file) → RowIn r
-  pub room : resultHeaderBytes + resultRowBytes * length (rowsOf file) ≤ length result
+  pub room : resultHeaderBytes + resultRowBytes * headerOf file .rowCount ≤ length result
   pub pool : pool (assessedFile ledger file) ≤ mostCents
 
 -- a file that ground 8 does not refuse has the ledger's days
@@ -54,28 +57,29 @@ pub settling-none : (ledger file result : List ℕ) → settling ledger file res
 unfolding settling
 settling-none ledger file result e = ground-zero {A = SettlingAnswer} (answered (settlingGrounds ledger file result)) (λ a. a .ground) _ _ refl e
 
+-- where a call of settling answers 0, the pool of its file is not too large
+pool-in : (ledger file result : List ℕ) → settling ledger file result .ground ≡ 0 → pool (assessedFile ledger file) ≤ mostCents
+unfolding settlingGrounds any poolTooLarge
+pool-in ledger file result e =
+    let none = none-applies (settlingGrounds ledger file result) refl (settling-none ledger file result e) in
+    search facts depth 14
+
 -- where a call of settling answers 0, ledger, file and result buffer are as it accepts them
 pub accepted : (ledger file result : List ℕ) → settling ledger file result .ground ≡ 0 → Accepted ledger file result
-unfolding settlingGrounds any resultTooShort poolTooLarge
 accepted ledger file result e =
-    let none = none-applies (settlingGrounds ledger file result) refl (settling-none ledger file result e) in
-    let g6 : notALedger ledger ≡ false = search facts depth 14 in
-    let g8 : otherTerms ledger file ≡ false = search facts depth 14 in
-    let g9 : headerOutside (headerOf file) ≡ false = search facts depth 14 in
-    let g11 : tablesMisplaced file ≡ false = search facts depth 14 in
-    let g12 : rowIdsUnknown (ledgerOf ledger) (rowsOf file) ≡ false = search facts depth 14 in
-    let g13 : any rowOutside (rowsOf file) ≡ false = search facts depth 14 in
-    let g15 : resultHeaderBytes + resultRowBytes * headerOf file .rowCount ≤ length result = search facts depth 14 in
-    let n = length-rows file in
+    let before = none-before ledger file result e in
+    let u = unrefused ledger file result before in
+    let p = passed ledger file result before in
     record {
-      ledger-holds = g6;
-      ledger-is = ledger-in ledger g6;
-      header = header-in (headerOf file) g9;
-      days = same-days ledger file g8;
-      rows-few = omega (arith, n, tables-in file g11 .rows);
-      ids-rise = rows-rise (ledgerOf ledger) (rowsOf file) g12;
-      ids-known = rows-known (ledgerOf ledger) (rowsOf file) g12;
-      rows = rows-in (rowsOf file) g13;
-      room = omega (arith, n, g15);
-      pool = search facts depth 14;
+      ledger-holds = u .tested .ledger;
+      ledger-is = ledger-in ledger (u .tested .ledger);
+      passed = p;
+      header = header-in (headerOf file) (p .header-in);
+      days = same-days ledger file (u .tested .terms);
+      rows-few = omega (arith, length-rows file, p .rows-few);
+      ids-rise = rows-rise (ledgerOf ledger) (rowsOf file) (p .known);
+      ids-known = rows-known (ledgerOf ledger) (rowsOf file) (p .known);
+      rows = rows-in (rowsOf file) (p .rows);
+      room = u .room;
+      pool = pool-in ledger file result e;
     }

@@ -7,8 +7,8 @@ use native.Mathlib.Omega.{arith}
 use lib.Dec.{ltb, eqb}
 use borrow.Author.Tests.{lt-ltb, le-ltb, ltb-true, ltb-false, eqb-true, eqb-false, eq-eqb, ne-eqb}
 use Rattle.words.specs.Lists.{any, risesAbove, rises}
-use Rattle.words.proofs.Lists.{rises-next, rises-rest}
-use Rattle.words.proofs.Tests.{facts, not-first, not-second}
+use Rattle.words.proofs.Lists.{none-passes, none-pass, rises-next, rises-rest, member-above, not-among}
+use Rattle.words.proofs.Tests.{facts, not-second}
 
 -- whether a row id is left without an account, walking account ids and row ids from their fronts
 unfoldable pub unmatched : List ℕ → List ℕ → Bool
@@ -28,7 +28,7 @@ rises-lower j k (x ∷ xs) h e =
     let up = rises-next k x xs e in
     rw (lt-ltb j x (omega (arith, up .0))) (up .1)
 
--- a row's step: what the walk says where its id is that of the account, and where it is above it
+-- a row whose id is the account's meets it, and both are done
 pub met : (a : ℕ) (accounts : List ℕ) (r : ℕ) (rows : List ℕ) → r ≡ a → unmatched (a ∷ accounts) (r ∷ rows) ≡ unmatched accounts rows
 unfolding unmatched
 met a accounts r rows e = rw (le-ltb r a (omega arith), eq-eqb r a e)
@@ -80,34 +80,19 @@ matched-rises k (a ∷ accounts) (r ∷ rows) up e =
 -- a row id known among some accounts is known among these and one more
 known-more : (a : ℕ) (accounts rows : List ℕ) → any (unknown accounts) rows ≡ false → any (unknown (a ∷ accounts)) rows ≡ false
 unfolding any
-known-more a accounts [] e = refl
-known-more a accounts (r ∷ rows) e =
-    let here : any (λ a. eqb a r) accounts ≡ true = search facts in
-    let later = known-more a accounts rows (not-second (unknown accounts r) (any (unknown accounts) rows) e) in
-    by (eqb a r) here later
+known-more a accounts rows e = none-pass (unknown (a ∷ accounts)) rows (λ r m. by (eqb a r) (any (λ a. eqb a r) accounts) (none-passes (unknown accounts) m e))
   where
-    by : (t : Bool) → any (λ a. eqb a r) accounts ≡ true → any (unknown (a ∷ accounts)) rows ≡ false → (not (t || any (λ a. eqb a r) accounts) || any (unknown (a ∷ accounts)) rows) ≡ false
-    by true here later = later
-    by false here later = rw here later
+    by : (t u : Bool) → not u ≡ false → not (t || u) ≡ false
+    by true u e = refl
+    by false u e = e
 
 -- and a row id above one account is known among the later ones, if it is known at all
 known-later : (a : ℕ) (accounts rows : List ℕ) → risesAbove a rows ≡ true → any (unknown (a ∷ accounts)) rows ≡ false → any (unknown accounts) rows ≡ false
 unfolding any
-known-later a accounts [] up e = refl
-known-later a accounts (r ∷ rows) up e =
-    let next = rises-next a r rows up in
-    let other : eqb a r ≡ false = ne-eqb a r (λ q. omega (arith, next .0)) in
-    let here = rw other at (not-first (unknown (a ∷ accounts) r) (any (unknown (a ∷ accounts)) rows) e) in
-    let later = known-later a accounts rows (rises-lower a r rows (omega (arith, next .0)) (next .1)) (not-second (unknown (a ∷ accounts) r) (any (unknown (a ∷ accounts)) rows) e) in
-    rw here later
-
--- a row id at or below an account id is not among the later ones
-not-later : (k r : ℕ) (accounts : List ℕ) → risesAbove k accounts ≡ true → r ≤ k → any (λ a. eqb a r) accounts ≡ false
-unfolding any
-not-later k r [] up h = refl
-not-later k r (a ∷ accounts) up h =
-    let next = rises-next k a accounts up in
-    rw (ne-eqb a r (λ q. omega (arith, next .0))) (not-later a r accounts (next .1) (omega (arith, next .0)))
+known-later a accounts rows up e =
+    none-pass (unknown accounts) rows (λ r m.
+    let other : eqb a r ≡ false = ne-eqb a r (λ q. omega (arith, member-above a m up)) in
+    rw other at (none-passes (unknown (a ∷ accounts)) m e))
 
 -- where every row meets its account, every row id is among the account ids
 pub matched-known : (accounts rows : List ℕ) → unmatched accounts rows ≡ false → any (unknown accounts) rows ≡ false
@@ -130,7 +115,7 @@ known-matched k (a ∷ accounts) (r ∷ rows) up order e =
     by-order r a
     (λ h.
     let here : any (λ a. eqb a r) (a ∷ accounts) ≡ true = search facts in
-    let none : any (λ a. eqb a r) (a ∷ accounts) ≡ false = rw (ne-eqb a r (λ q. omega arith)) (not-later a r accounts (next .1) (omega arith)) in
+    let none : any (λ a. eqb a r) (a ∷ accounts) ≡ false = rw (ne-eqb a r (λ q. omega arith)) (not-among a r accounts (next .1) (omega arith)) in
     absurd (true≢false (sym here ∙ none)))
     (λ h.
     let later = not-second (unknown (a ∷ accounts) r) (any (unknown (a ∷ accounts)) rows) e in

@@ -16,7 +16,7 @@ use Rattle.words.proofs.Lists.{none-start, none-turn}
 use Rattle.reading.specs.Block.{Terms}
 use Rattle.reading.specs.Interval.{rowBytes, Row, headerOf, rowAt, rowOf, rowsOf, rowOutside}
 use Rattle.reading.proofs.Bounds.{terms-in, RowIn, row-in}
-use Rattle.reading.proofs.Walk.{rowPart, rowsLeft, rows-start, rows-turn, rows-end}
+use Rattle.reading.proofs.Walk.{rowPart, row-part, rowsLeft, rows-start, rows-turn, rows-end}
 use Rattle.assessment.specs.Assessment.{Ratio, ratioOf, shortfall, expected, RowFigures, rowFigures, Account, raised, charge, ChargedRow, chargedRow, assessed}
 use Rattle.assessment.proofs.SumLaws.{partFrom, part-length, curve-within, fails}
 use Rattle.assessment.proofs.Promises.{figures-in}
@@ -28,6 +28,7 @@ use Rattle.settling.proofs.Beside.{unmatched, met, passed-by, missed, n
 use Rattle.settling.proofs.Meeting.{accountIds, rowIds, chargedTo, chargedBeside, charged-met, charged-passed, charged-own, accounts-rise, all-meet}
 use Rattle.ledger.proofs.Accounts.{accountPart, accountsLeft, accounts-start, accounts-turn, accounts-end}
 use Rattle.ledger.proofs.Sound.{account-in}
+use Rattle.settling.proofs.SettlingTests.{row-id}
 
 -- six numbers are a row's figures
 abbrev pub Figured : RowFigures → ℕ → ℕ → ℕ → ℕ → ℕ → ℕ → Type 0
@@ -121,7 +122,7 @@ module _ {ledger file : List ℕ} {q : Ratio} {cone days count first : ℕ} wher
 
   -- a turn
   module _ {rows : List ℕ} {i j : ℕ} (w : Walking ledger file q cone days count first rows i j) (taken : i < count) where
-    -- its row and its account
+    -- row i of the file
     abbrev row : Row
     row = rowOf file (rowPart file i)
 
@@ -137,7 +138,7 @@ module _ {ledger file : List ℕ} {q : Ratio} {cone days count first : ℕ} wher
     abbrev accountsOn : List Account
     accountsOn = accountsLeft ledger (j + 1)
 
-    -- where its row begins, and the part of the file from there on
+    -- where the row begins
     abbrev start : ℕ
     start = first + rowBytes * i
 
@@ -153,7 +154,7 @@ module _ {ledger file : List ℕ} {q : Ratio} {cone days count first : ℕ} wher
     place : start ≡ headerOf file .rowsOffset + rowBytes * i
     place = ap (λ at. at + rowBytes * i) (w .first-is)
 
-    -- it is one of few, and lies within the file
+    -- it is one of the first 512
     pub row-few : i < 512
     row-few = omega (arith, on, w .passed .rows-few)
 
@@ -176,7 +177,7 @@ module _ {ledger file : List ℕ} {q : Ratio} {cone days count first : ℕ} wher
             let lost = sym (ap₂ (λ xs rs. unmatched (accountIds xs) (rowIds rs)) none (rows-turn file i on)) ∙ w .meet in
             absurd (true≢false (sym (none-left (row .id) (rowIds rowsOn)) ∙ lost))
 
-    -- that one is one of few, and lies within the ledger
+    -- it is one of the first 512
     pub account-few : j < 512
     account-few = omega (arith, account-left, w .passed .few)
 
@@ -189,7 +190,7 @@ module _ {ledger file : List ℕ} {q : Ratio} {cone days count first : ℕ} wher
     pub words-lie : 8 * i + 8 ≤ length rows
     words-lie = omega (arith, on, w .long)
 
-    -- grounds 13 and 6 do not refuse this row and this account
+    -- the row is within the bounds of ground 13
     row-here : RowIn row
     row-here = row-in row (none-turn rowOutside (rows-turn file i on) (w .rows-in) .0)
 
@@ -197,15 +198,18 @@ module _ {ledger file : List ℕ} {q : Ratio} {cone days count first : ℕ} wher
     accounts-here : (accountOutside (termsOf ledger) account ≡ false) × (any (accountOutside (termsOf ledger)) accountsOn ≡ false)
     accounts-here = none-turn (accountOutside (termsOf ledger)) (accounts-turn ledger j account-left) (w .accounts-in)
 
-    -- the row's id and committed kW need no points
+    -- the part is the row's own
+    part-here : part ≡ rowPart file i
+    part-here = row-part file i (w .first-is)
+
+    -- its word 0 is the row's id
     id-here : word32 part 0 ≡ row .id
-    unfolding rowOf rowAt
-    id-here = ap (λ b. word32 b 0) (part-to-end file start ∙ ap (λ k. drop k file) place)
+    id-here = row-id file i (word32 part 0) first (w .first-is) refl
 
     -- read without points, the row has the same committed kW
     committed-here : rowAt part [] .committed ≡ row .committed
     unfolding rowOf rowAt
-    committed-here = ap (λ b. word32 b 2) (part-to-end file start ∙ ap (λ k. drop k file) place)
+    committed-here = ap (λ b. word32 b 2) part-here
 
     -- those committed kW are at most 4000000
     committed-in : rowAt part [] .committed ≤ 4000000
@@ -246,14 +250,14 @@ module _ {ledger file : List ℕ} {q : Ratio} {cone days count first : ℕ} wher
     walk-passes id-is word-is differ rows-are i-is =
         rw (rows-are, i-is) (passes (λ e. differ (word-is ∙ id-here ∙ e ∙ sym id-is)))
 
-    -- what the callees ask
+    -- what the code of a curve's place asks: bytes of the file's header and of the row, and points within the file
     pub curve-asks : (40 ≤ length file) × ((56 ≤ length part) × (0 < word32 part 13 → headerOf file .pointsOffset + 8 * (word32 part 12 + word32 part 13) ≤ length file))
     curve-asks = (w .passed .header, (row-holds, curve-within file i start place (none-turn (fails file) (rows-turn file i on) (w .points-in) .0) (w .passed .points-lie)))
 
     module _ (curve : ℕ) (same : rowAt part (drop curve file) ≡ rowOf file part) where
       -- the row in two parts of the file is that of the file
       row-same : rowAt part (partFrom file curve) ≡ row
-      row-same = ap (rowAt part) (part-to-end file curve) ∙ same ∙ ap (rowOf file) (part-to-end file start ∙ ap (λ k. drop k file) place)
+      row-same = ap (rowAt part) (part-to-end file curve) ∙ same ∙ ap (rowOf file) part-here
 
       -- what the code of a row's figures asks: bytes of the row and its points, committed kW and numerator bounded
       pub figures-asks : {above : ℕ} → curve + 8 * word32 part 13 ≤ length file → above ≤ 2 ^ 40

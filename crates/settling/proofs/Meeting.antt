@@ -6,8 +6,8 @@ use mathlib.Core.Bool.{Bool, true, false, cond, true≢false, not, _||_}
 use native.Mathlib.Omega.{arith}
 use lib.Dec.{eqb}
 use borrow.Author.Tests.{eq-eqb, ne-eqb}
-use Rattle.words.specs.Lists.{risesAbove, any, rises}
-use Rattle.words.proofs.Lists.{rises-next}
+use Rattle.words.specs.Lists.{risesAbove, rises}
+use Rattle.words.proofs.Lists.{any-map, rises-next}
 use Rattle.reading.specs.Block.{Terms}
 use Rattle.reading.specs.Interval.{Row, rowsOf}
 use Rattle.assessment.specs.Assessment.{Ratio, ifConsidered, rowFigures, Account, accountOf, raised, charge, ChargedRow, chargedRow, Assessed, credit}
@@ -17,7 +17,7 @@ use Rattle.settling.specs.Scratch.{Passed}
 use Rattle.ledger.specs.Ledger.{ledgerOf, idsIn}
 use Rattle.reading.proofs.Bounds.{ids-rise}
 
--- the ids of accounts, of rows and of charged rows
+-- the ids of accounts
 abbrev pub accountIds : List Account → List ℕ
 accountIds = map (λ a. a .id)
 
@@ -165,12 +165,6 @@ module _ (v : Assessed) where
       let above = matched-rises (a .id) (accountIds accounts) (c .row .id ∷ chargedIds rows) (next .1) rest in
       posted-passed a accounts c rows (ne-eqb (c .row .id) (a .id) (λ q. omega arith))
       ∙ ap₂ _∷_ (sym (none-posted (a .id) (c ∷ rows) a above (omega arith))) (posted-own (a .id) accounts (c ∷ rows) (next .1) rest))
-
--- a test of the figures of members is one of the members
-pub any-map : {A B : Type 0} (p : B → Bool) (g : A → B) (xs : List A) → any p (map g xs) ≡ any (λ x. p (g x)) xs
-unfolding any
-any-map p g [] = refl
-any-map p g (x ∷ xs) = ap (λ t. p (g x) || t) (any-map p g xs)
 
 -- ids of accounts that ground 6 does not refuse rise
 pub accounts-rise : (ledger file : List ℕ) → Passed ledger file → risesAbove 0 (accountIds (ledgerOf ledger .accounts)) ≡ true

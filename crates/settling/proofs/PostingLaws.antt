@@ -1,21 +1,21 @@
 -- What is left to post while rows and accounts are walked side by side.
 use Prim.Native.Nat.{ℕ, zero, suc, _+_, _*_, _≤_, _<_, _^_}
 use mathlib.Core.Path.{_≡_, refl, sym, ap, ap₂, _∙_}
-use mathlib.Core.List.{List, [], _∷_, _++_, map}
+use mathlib.Core.List.{List, [], _∷_, _++_, map, map-map}
 use mathlib.Core.Bool.{Bool, true, false, _&&_}
 use native.Mathlib.Omega.{arith}
 use borrow.Author.Tests.{lt-ltb, le-ltb, ltb-true, ltb-false}
-use borrow.Rule.Slice.PartAt.{part-to-end}
-use lib.ListN.{length, drop, getD, List·getD-append}
-use lib.Seq.{drop-drop, getD-drop}
+use lib.ListN.{length, drop, getD}
+use lib.Seq.{drop-drop}
 use lib.Dec.{ltb, eqb}
 use Rattle.words.specs.Lists.{any}
 use Rattle.words.specs.Words.{word32, entries, writtenAt}
 use Rattle.words.proofs.Tests.{first-holds, second-holds, not-first, not-second}
+use Rattle.words.proofs.Words.{length-entries, entry-at}
 use Rattle.words.proofs.Access.{write-more, write-none, length-writtenAt, beyond-kept}
 use Rattle.reading.specs.Interval.{rowBytes, Row, headerOf, rowAt, rowOf, rowsOf}
 use Rattle.reading.proofs.Bounds.{terms-in}
-use Rattle.reading.proofs.Walk.{rowPart, rowsLeft, rows-start, rows-turn, rows-end}
+use Rattle.reading.proofs.Walk.{rowPart, row-part, rowsLeft, rows-start, rows-turn, rows-end}
 use Rattle.assessment.specs.Assessment.{Account, raised, ChargedRow, chargedRow, Assessed, credit}
 use Rattle.assessment.proofs.Limits.{mostLimit, limit-le}
 use Rattle.assessment.proofs.SumLaws.{partFrom}
@@ -26,7 +26,7 @@ use Rattle.ledger.proofs.Accounts.{accountPart, accountsLeft, accounts-start, a
 use Rattle.settling.proofs.Beside.{unmatched}
 use Rattle.settling.proofs.Meeting.{accountIds, rowIds, chargedIds, postedBeside, posted-met, posted-passed, posted-rest, posted-own, accounts-rise, all-meet}
 use Rattle.ledger.proofs.Sound.{account-in}
-use Rattle.settling.proofs.SettledLaws.{length-row-words, chargedOf, rows-are, count-is}
+use Rattle.settling.proofs.SettledLaws.{length-row-words, row-word, chargedOf, rows-are, count-is}
 
 -- whether row i of a file is there and has an id
 module _ (f : List ℕ) (i n first id : ℕ) (count : n ≡ headerOf f .rowCount) where
@@ -39,8 +39,7 @@ module _ (f : List ℕ) (i n first id : ℕ) (count : n ≡ headerOf f .rowCount
       → eqb w id ≡ (ltb i (headerOf f .rowCount) && eqb (rowAt (rowPart f i) [] .id) id)
   unfolding rowAt
   row-there h place w e =
-      let same : partFrom f (first + 56 * i) ≡ rowPart f i = part-to-end f (first + 56 * i) ∙ ap (λ at. drop (at + 56 * i) f) place in
-      rw (lt-ltb i (headerOf f .rowCount) (omega arith)) (ap (λ w. eqb w id) (e ∙ ap (λ b. word32 b 0) same))
+      rw (lt-ltb i (headerOf f .rowCount) (omega arith)) (ap (λ w. eqb w id) (e ∙ ap (λ b. word32 b 0) (row-part f i place)))
 
 -- what that says where it holds
 pub meets-row : (f : List ℕ) (i id : ℕ) (r : Bool) → r ≡ (ltb i (headerOf f .rowCount) && eqb (rowAt (rowPart f i) [] .id) id) → r ≡ true
@@ -61,35 +60,23 @@ unfolding raised
 raised-written b x part at id largest charged credited cents share kw raise put =
     put ∙ ap (λ kw. writtenAt at (id ∷ kw ∷ (charged + cents) ∷ (credited + share) ∷ []) b) raise
 
--- where no entry of a table passes a test, entry i does not
-entry-fails : {A : Type 0} (p : A → Bool) (size : ℕ) (read : List ℕ → A) (n : ℕ) (b : List ℕ) (i : ℕ) → i < n → any p (entries size read n b) ≡ false → p (read (drop (size * i) b)) ≡ false
-unfolding any entries
-entry-fails p size read zero b i h e = absurd (omega arith)
-entry-fails p size read (suc n) b zero h e = let front : size * 0 ≡ 0 = omega arith in rw front (not-first (p (read b)) (any p (entries size read n (drop size b))) e)
-entry-fails p size read (suc n) b (suc i) h e =
-    let next : size + size * i ≡ size * suc i = omega arith in
-    ap (λ d. p (read d)) (sym (drop-drop (size * i) size b ∙ ap (λ k. drop k b) next))
-    ∙ entry-fails p size read n (drop size b) i (omega arith) (not-second (p (read b)) (any p (entries size read n (drop size b))) e)
+-- where no member passes a test, the one at i does not
+none-at : {A : Type 0} (p : A → Bool) (xs : List A) (i : ℕ) (d : A) → i < length xs → any p xs ≡ false → p (getD xs i d) ≡ false
+unfolding any
+none-at p [] i d h e = absurd (omega arith)
+none-at p (x ∷ xs) zero d h e = not-first (p x) (any p xs) e
+none-at p (x ∷ xs) (suc i) d h e = none-at p xs i d (omega arith) (not-second (p x) (any p xs) e)
 
--- word k of row i
-row-word : {A : Type 0} (credited : ChargedRow → ℕ) (charged : A → ChargedRow) (size : ℕ) (read : List ℕ → A) (k : ℕ) → k < 8 → (n : ℕ) (b : List ℕ) (i : ℕ) → i < n
-    → getD (rowWords credited (map charged (entries size read n b))) (8 * i + k) 0 ≡ getD (rowWords credited (charged (read (drop (size * i) b)) ∷ [])) k 0
-unfolding rowWords entries
-row-word credited charged size read k low zero b i h = absurd (omega arith)
-row-word credited charged size read k low (suc n) b zero h =
-    let front : size * 0 ≡ 0 = omega arith in
-    let here : 8 * 0 + k ≡ k = omega arith in
-    ap (λ at. getD (rowWords credited (map charged (entries size read (suc n) b))) at 0) here
-    ∙ List·getD-append (rowWords credited (charged (read b) ∷ [])) (rowWords credited (map charged (entries size read n (drop size b)))) 0 k low
-    ∙ ap (λ at. getD (rowWords credited (charged (read (drop at b)) ∷ [])) k 0) (sym front)
-row-word credited charged size read k low (suc n) b (suc i) h =
-    let next : size + size * i ≡ size * suc i = omega arith in
-    let here : 8 * suc i + k ≡ 8 + (8 * i + k) = omega arith in
-    let all = rowWords credited (map charged (entries size read (suc n) b)) in
-    ap (λ at. getD all at 0) here
-    ∙ sym (getD-drop 8 all (8 * i + k) 0)
-    ∙ row-word credited charged size read k low n (drop size b) i (omega arith)
-    ∙ ap (λ d. getD (rowWords credited (charged (read d) ∷ [])) k 0) (drop-drop (size * i) size b ∙ ap (λ k. drop k b) next)
+-- so it is with entry i of a table
+entry-fails : {A : Type 0} (p : A → Bool) (size : ℕ) (read : List ℕ → A) (n : ℕ) (b : List ℕ) (i : ℕ) → i < n → any p (entries size read n b) ≡ false → p (read (drop (size * i) b)) ≡ false
+entry-fails p size read n b i h e =
+    ap p (sym (entry-at size read n b i (read b) h)) ∙ none-at p (entries size read n b) i (read b) (omega (arith, length-entries size read n b)) e
+
+-- figures of a table's entries are entries of a table of figures
+map-entries : {A B : Type 0} (g : A → B) (size : ℕ) (read : List ℕ → A) (n : ℕ) (b : List ℕ) → map g (entries size read n b) ≡ entries size (λ d. g (read d)) n b
+unfolding entries
+map-entries g size read zero b = refl
+map-entries g size read (suc n) b = ap (λ rest. g (read b) ∷ rest) (map-entries g size read n (drop size b))
 
 -- four words that are an account's
 pub account-is : (id largest charged credited : ℕ) (a : Account) → (id ≡ a .id) × (largest ≡ a .largest) × (charged ≡ a .charged) × (credited ≡ a .credited)
@@ -113,7 +100,7 @@ module _ (b f : List ℕ) where
   abbrev pub charged : Row → ChargedRow
   charged = chargedOf b f
 
-  -- the charged rows from i on, and charged row i
+  -- the charged rows from i on
   abbrev pub chargedLeft : ℕ → List ChargedRow
   chargedLeft i = map charged (rowsLeft f i)
 
@@ -137,11 +124,8 @@ module _ (b f : List ℕ) where
 
   -- charging keeps the ids
   charged-ids : chargedIds (v .rows) ≡ rowIds (rowsOf f)
-  charged-ids = ap chargedIds (rows-are b f) ∙ ids (rowsOf f)
-    where
-      ids : (rs : List Row) → chargedIds (map charged rs) ≡ rowIds rs
-      ids [] = refl
-      ids (r ∷ rs) = ap₂ _∷_ (unfold chargedRow in refl) (ids rs)
+  unfolding chargedRow
+  charged-ids = ap chargedIds (rows-are b f) ∙ map-map (λ c. c .row .id) charged (rowsOf f)
 
   -- the rows' words in scratch
   module _ (rows : List ℕ) (filled : rows ≡ rowWords (credit v) (v .rows)) where
@@ -154,9 +138,14 @@ module _ (b f : List ℕ) where
     word-at : (i k : ℕ) → k < 8 → i < headerOf f .rowCount → getD rows (8 * i + k) 0 ≡ getD (rowWords (credit v) (chargedAt i ∷ [])) k 0
     unfolding rowsOf
     word-at i k low h =
+        let own : ChargedRow → ℕ = λ c. getD (rowWords (credit v) (c ∷ [])) k 0 in
+        let n = headerOf f .rowCount in
+        let at = headerOf f .rowsOffset in
         ap (λ ws. getD ws (8 * i + k) 0) (filled ∙ ap (rowWords (credit v)) (rows-are b f))
-        ∙ row-word (credit v) charged rowBytes (rowOf f) k low (headerOf f .rowCount) (drop (headerOf f .rowsOffset) f) i h
-        ∙ ap (λ d. getD (rowWords (credit v) (charged (rowOf f d) ∷ [])) k 0) (drop-drop (rowBytes * i) (headerOf f .rowsOffset) f)
+        ∙ row-word (credit v) k low (map charged (rowsOf f)) i
+        ∙ ap (λ ws. getD ws i 0) (map-map own charged (rowsOf f) ∙ map-entries (λ r. own (charged r)) rowBytes (rowOf f) n (drop at f))
+        ∙ entry-at rowBytes (λ d. own (charged (rowOf f d))) n (drop at f) i 0 h
+        ∙ ap (λ d. own (charged (rowOf f d))) (drop-drop (rowBytes * i) at f)
 
     -- word 6 of row i in scratch is its charge
     pub charge-at : (i : ℕ) → i < headerOf f .rowCount → getD rows (8 * i + 6) 0 ≡ chargedAt i .charge

@@ -3,7 +3,6 @@ use Prim.Native.Nat.{ℕ, zero, suc, _+_, _-_, _*_, _^_, _≤_, _<_, max}
 use mathlib.Core.Path.{_≡_, refl, sym, ap, ap₂, _∙_, subst}
 use mathlib.Core.List.{List, [], _∷_, _++_, map, append-assoc, List·Memᴰ, List·Memᴰ·head, List·Memᴰ·tail, Memᴰ·of-map}
 use mathlib.Core.Bool.{Bool, true, false, cond}
-use native.Mathlib.Nat.{mul-le-mul-right}
 use native.Mathlib.Omega.{arith}
 use lib.ListN.{length, take, drop, getD, length-map, length-append, List·getD-append}
 use lib.Dec.{eqb}
@@ -46,7 +45,7 @@ pub record RowWithin (most : ℕ) (credited : ChargedRow → ℕ) (c : ChargedRo
   pub credit : credited c ≤ most
 
 -- an interval of a pool of at most so many cents has such rows
-pub row-within : (v : Assessed) (most : ℕ) → pool v ≤ most → (c : ChargedRow) → List·Memᴰ c (v .rows) → FiguresIn (c .figures) → RowWithin most (credit v) c
+row-within : (v : Assessed) (most : ℕ) → pool v ≤ most → (c : ChargedRow) → List·Memᴰ c (v .rows) → FiguresIn (c .figures) → RowWithin most (credit v) c
 unfolding pool charges credits
 row-within v most small c m own = record {
   figures = own;
@@ -71,16 +70,27 @@ row-words-below n most kw cents credited (c ∷ cs) each =
     let outage = below-cons (own .outage) _ (omega (arith, f .outage)) economic in
     below-cons (own .expected) _ (omega (arith, f .expected)) (below-cons (own .actual) _ (omega (arith, f .actual)) outage)
 
+-- word k of row i, and 0 past the last row
+pub row-word : (credited : ChargedRow → ℕ) (k : ℕ) → k < 8 → (cs : List ChargedRow) (i : ℕ)
+    → getD (rowWords credited cs) (8 * i + k) 0 ≡ getD (map (λ c. getD (rowWords credited (c ∷ [])) k 0) cs) i 0
+unfolding rowWords
+row-word credited k low [] i = refl
+row-word credited k low (c ∷ cs) zero =
+    let here : 8 * 0 + k ≡ k = omega arith in
+    ap (λ at. getD (rowWords credited (c ∷ cs)) at 0) here ∙ List·getD-append (rowWords credited (c ∷ [])) (rowWords credited cs) 0 k low
+row-word credited k low (c ∷ cs) (suc i) =
+    let next : 8 * suc i + k ≡ 8 + (8 * i + k) = omega arith in
+    let skip = getD-append-add (rowWords credited (c ∷ [])) (rowWords credited cs) (8 * i + k) 0 in
+    rw (next, skip) (row-word credited k low cs i)
+
 -- bonus words of rows of at most so much each
 bonus-words : (most : ℕ) (credited : ChargedRow → ℕ) (cs : List ChargedRow) → ((c : ChargedRow) → List·Memᴰ c cs → c .figures .bonus ≤ most)
     → (i : ℕ) → getD (rowWords credited cs) (8 * i + 5) 0 ≤ most
 unfolding rowWords
-bonus-words most credited [] each i = omega arith
-bonus-words most credited (c ∷ cs) each zero = each c (List·Memᴰ·head refl)
-bonus-words most credited (c ∷ cs) each (suc i) =
-    let next : 8 * suc i + 5 ≡ 8 + (8 * i + 5) = omega arith in
-    let skip = getD-append-add (rowWords credited (c ∷ [])) (rowWords credited cs) (8 * i + 5) 0 in
-    rw (next, skip) (bonus-words most credited cs (λ d m. each d (List·Memᴰ·tail m)) i)
+bonus-words most credited cs each i =
+    let own : ChargedRow → ℕ = λ c. c .figures .bonus in
+    let low = below-at {n = suc most} (map own cs) i (omega arith) (λ w m. let (c, at, e) = Memᴰ·of-map own cs m in omega (arith, e, each c at)) in
+    omega (arith, row-word credited 5 (omega arith) cs i, low)
 
 -- shares of cents in place of any credits make the words of rows that are credited so
 credited-words : (cents total : ℕ) (before after : ChargedRow → ℕ) (cs : List ChargedRow)
@@ -188,23 +198,22 @@ module _ (ledger file : List ℕ) (p : Passed ledger file) where
   pub charges-fit : charges v ≤ mostRows * mostLimit
   unfolding charges
   charges-fit =
-      let all = sum-most (λ c. c .charge) mostLimit (v .rows) (λ c m. row-known c m .charge) in
-      let few : length (v .rows) ≤ mostRows = omega (arith, count-is ledger file, p .rows-few) in
-      omega (arith, all, mul-le-mul-right mostLimit few)
+      sum-most (λ c. c .charge) mostLimit mostRows (v .rows) (omega (arith, count-is ledger file, p .rows-few)) (λ c m. row-known c m .charge)
 
   -- the total bonus is no more than twice the most kW for each of the most rows
   pub bonus-fits : totalBonus v ≤ mostRows * (2 * mostKilowatts)
   unfolding totalBonus
   bonus-fits =
-      let all = sum-most (λ c. c .figures .bonus) (2 * mostKilowatts) (v .rows) (λ c m. row-known c m .figures .bonus) in
-      let few : length (v .rows) ≤ mostRows = omega (arith, count-is ledger file, p .rows-few) in
-      omega (arith, all, mul-le-mul-right (2 * mostKilowatts) few)
+      sum-most (λ c. c .figures .bonus) (2 * mostKilowatts) mostRows (v .rows) (omega (arith, count-is ledger file, p .rows-few)) (λ c m. row-known c m .figures .bonus)
 
-  -- where the pool is not too large, no word of the rows in the result is above the most cents
+  -- where the pool is not too large, each row has its figures in range, and its charge and credit are at most the most cents
+  pub rows-within : pool v ≤ mostCents → (c : ChargedRow) → List·Memᴰ c (v .rows) → RowWithin mostCents (credit v) c
+  rows-within small c m = row-within v mostCents small c m (row-known c m .figures)
+
+  -- so no word of the rows in the result is above the most cents
   pub each-word : pool v ≤ mostCents → (k : ℕ) → getD (rowWords (credit v) (v .rows)) k 0 ≤ mostCents
   each-word small k =
-      let within : (c : ChargedRow) → List·Memᴰ c (v .rows) → RowWithin mostCents (credit v) c = λ c m. row-within v mostCents small c m (row-known c m .figures) in
-      let below = row-words-below (mostCents + 1) mostCents (omega arith) (omega arith) (credit v) (v .rows) within in
+      let below = row-words-below (mostCents + 1) mostCents (omega arith) (omega arith) (credit v) (v .rows) (rows-within small) in
       omega (arith, below-at (rowWords (credit v) (v .rows)) k (omega arith) below)
 
   -- the result's words

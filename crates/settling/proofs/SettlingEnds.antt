@@ -1,28 +1,19 @@
 -- The three ends of a call of settling: refused before the charges are known, refused by the pool, and settled.
 use Prim.Native.Nat.{ℕ, _≤_, _<_}
-use mathlib.Core.Path.{_≡_, refl, sym, ap, _∙_}
+use mathlib.Core.Path.{_≡_, sym, ap, _∙_}
 use mathlib.Core.List.{List}
-use mathlib.Core.Bool.{false}
-use lib.ListN.{take}
 use borrow.Author.Tests.{lt-ltb, le-ltb, ne-eqb}
-use Rattle.words.specs.Lists.{any}
 use Rattle.words.specs.Words.{written}
-use Rattle.words.proofs.Tests.{facts}
-use Rattle.words.proofs.Grounds.{none-applies}
 use Rattle.assessment.specs.Assessment.{pool}
-use Rattle.ledger.specs.Ledger.{mostCents, ledgerOf, ledgerWords, notALedger}
-use Rattle.settling.specs.Settling.{resultWords, assessedFile, poolTooLarge, settlingGrounds, settledLedger, settling}
-use Rattle.settling.proofs.SettlingTests.{beforePool, refused-before, refused-16, accepted-all}
+use Rattle.ledger.specs.Ledger.{mostCents, ledgerOf, ledgerWords}
+use Rattle.settling.specs.Settling.{resultWords, assessedFile, poolTooLarge, settledLedger, settling}
+use Rattle.settling.proofs.SettlingTests.{beforePool, unrefused, refused-before, refused-16, accepted-all}
 use Rattle.ledger.proofs.Sound.{ledger-in}
 
 module _ (l f r : List ℕ) where
   -- where grounds 6 to 15 do not refuse, the cents carried are no more than their most
   pub carried-in : beforePool l f r ≡ 0 → ledgerOf l .carried ≤ mostCents
-  unfolding settlingGrounds any
-  carried-in e =
-      let none = none-applies (take 10 (settlingGrounds l f r)) refl e in
-      let g6 : notALedger l ≡ false = search facts depth 14 in
-      ledger-in l g6 .carried
+  carried-in e = ledger-in l (unrefused l f r e .tested .ledger) .carried
 
   -- where one of grounds 6 to 15 refuses, settling answers it and leaves both buffers as they were
   pub end-refused : (g : ℕ) → g ≡ beforePool l f r → (g ≡ 0 → ⊥) → (g ≡ settling l f r .ground) × ((l ≡ settling l f r .ledger) × (r ≡ settling l f r .result))

@@ -6,10 +6,11 @@ use mathlib.Core.Bool.{Bool, true, false, cond, not, _||_, true≢false}
 use native.Mathlib.Omega.{arith}
 use lib.ListN.{length, take, drop}
 use lib.Dec.{eqb}
-use borrow.Author.Tests.{lt-ltb, le-ltb, eqb-false, eq-eqb, ne-eqb}
+use borrow.Author.Tests.{lt-ltb, le-ltb, eqb-true, eqb-false, eq-eqb, ne-eqb}
 use Rattle.words.specs.Lists.{any, rises}
 use Rattle.words.specs.Words.{word32, word64}
 use Rattle.words.specs.Grounds.{answered}
+use Rattle.words.proofs.Lists.{any-map}
 use Rattle.words.proofs.Tests.{facts, not-first, not-second}
 use Rattle.words.proofs.Grounds.{none-applies}
 use Rattle.reading.specs.Block.{idsOutOfOrder}
@@ -22,9 +23,9 @@ use Rattle.settling.specs.Settling.{resultHeaderBytes, resultRowBytes, a
 use Rattle.settling.specs.Scratch.{Passed}
 use Rattle.ledger.proofs.Accounts.{accountPart, accountsLeft, accounts-start, accounts-turn, accounts-end}
 use Rattle.settling.proofs.Beside.{unmatched, unknown, met, passed-by, missed, none-left, all-met, walked}
-use Rattle.settling.proofs.Meeting.{accountIds, rowIds, any-map}
+use Rattle.settling.proofs.Meeting.{accountIds, rowIds}
 use Rattle.settling.proofs.SettlingAnswers.{settledAnswer, settling-accepts, settling-refuses}
-use Rattle.ledger.proofs.Sound.{ledger-in, ledger-room, length-accounts}
+use Rattle.ledger.proofs.Sound.{ledger-in, length-accounts}
 
 -- a list of grounds answers as its front does, where that is not 0
 answered-front : (n : ℕ) (gs : List (Bool × ℕ)) → eqb (answered (take n gs)) 0 ≡ false → answered gs ≡ answered (take n gs)
@@ -58,9 +59,10 @@ accounts-in : (l : List ℕ) → notALedger l ≡ false → any (accountOutside 
 unfolding notALedger
 accounts-in l e = search facts depth 20
 
--- and their bytes
+-- all their bytes are there
 pub accounts-lie : (l : List ℕ) → notALedger l ≡ false → ledgerBytes (accountCount l) ≤ length l
-accounts-lie l e = rw (length-accounts l) at (ledger-room l e)
+unfolding notALedger
+accounts-lie l e = search facts depth 20
 
 -- ground 8: Net CONE of the file and of the ledger, then their days
 module _ (l f : List ℕ) (cone ours : ℕ) (e : cone ≡ word32 f 2) (k : ours ≡ word64 l 1) where
@@ -120,7 +122,7 @@ module _ (l f : List ℕ) where
       pub row-missed : id < a → rowIdsUnknown (ledgerOf l) (rowsOf f) ≡ true
       row-missed h = both ∙ missed a (accountIds (accountsLeft l (j + 1))) id (rowIds (rowsLeft f (i + 1))) h
 
-      -- the next row k, where row i has account j and where it does not
+      -- where row i's id is account j's, the rows after i and the accounts after j are left
       pub row-met : id ≡ a → (k : ℕ) → k ≡ i + 1 → rowIdsUnknown (ledgerOf l) (rowsOf f) ≡ unknownLeft k (j + 1)
       row-met h k e =
           both
@@ -223,40 +225,57 @@ module _ (l f r : List ℕ) (t : Tested l f) where
     unfolding answered resultTooShort
     settling-0 h = rw (last-decide, scanned-none f e .0, scanned-none f e .1, le-ltb (length r) (resultHeaderBytes + resultRowBytes * headerOf f .rowCount) h)
 
+-- a ledger, a file and a result buffer that grounds 6 to 15 do not refuse
+pub record Unrefused (l f r : List ℕ) : Type 0 where
+  pub tested : Tested l f
+  pub rows : any rowOutside (rowsOf f) ≡ false
+  pub points : any (pointsOutside (headerOf f .pointCount)) (rowsOf f) ≡ false
+  pub room : resultHeaderBytes + resultRowBytes * headerOf f .rowCount ≤ length r
+
 -- what the answer of grounds 6 to 15 says of a call
 module _ (l f r : List ℕ) where
-  -- where grounds 6 to 15 answer 0, ledger and file are as settling relies on
-  pub passed : beforePool l f r ≡ 0 → Passed l f
-  unfolding settlingGrounds any
-  passed e =
+  -- where grounds 6 to 15 answer 0, none of them applies
+  pub unrefused : beforePool l f r ≡ 0 → Unrefused l f r
+  unfolding settlingGrounds any tooEarly resultTooShort
+  unrefused e =
       let none = none-applies (take 10 (settlingGrounds l f r)) refl e in
-      let g6 : notALedger l ≡ false = search facts depth 14 in
-      let g7 : notAFile f ≡ false = search facts depth 14 in
-      let g11 : tablesMisplaced f ≡ false = search facts depth 14 in
-      let ledger = ledger-in l g6 in
-      let tables = tables-in f g11 in
       record {
-        room = accounts-lie l g6;
+        tested = record {
+          ledger = search facts depth 14;
+          file = search facts depth 14;
+          terms = search facts depth 14;
+          header = search facts depth 14;
+          interval = search facts depth 14;
+          tables = search facts depth 14;
+          ids = search facts depth 14;
+        };
+        rows = search facts depth 14;
+        points = search facts depth 14;
+        room = search facts depth 14;
+      }
+
+  -- so ledger and file are as settling relies on
+  pub passed : beforePool l f r ≡ 0 → Passed l f
+  passed e =
+      let u = unrefused e in
+      let t = u .tested in
+      let ledger = ledger-in l (t .ledger) in
+      let tables = tables-in f (t .tables) in
+      record {
+        room = accounts-lie l (t .ledger);
         few = omega (arith, length-accounts l, ledger .few);
         terms = ledger .terms;
         ids = ledger .ids;
-        accounts = accounts-in l g6;
-        header = file-has-header f g7;
-        header-in = search facts depth 14;
+        accounts = accounts-in l (t .ledger);
+        header = file-has-header f (t .file);
+        header-in = t .header;
         rows-few = tables .rows;
         rows-lie = tables .rows-lie;
         points-lie = tables .points-lie;
-        known = search facts depth 14;
-        rows = search facts depth 14;
-        points = search facts depth 14;
+        known = t .ids;
+        rows = u .rows;
+        points = u .points;
       }
-
-  -- where grounds 6 to 15 answer 0, the result buffer has room for all rows
-  pub result-room : beforePool l f r ≡ 0 → resultHeaderBytes + resultRowBytes * headerOf f .rowCount ≤ length r
-  unfolding settlingGrounds any resultTooShort
-  result-room e =
-      let none = none-applies (take 10 (settlingGrounds l f r)) refl e in
-      search facts depth 14
 
   -- one of them refuses
   pub refused-before : eqb (beforePool l f r) 0 ≡ false → settling l f r ≡ record { ground = beforePool l f r; ledger = l; result = r }
@@ -279,3 +298,11 @@ module _ (l f r : List ℕ) where
   -- with a pool that is not too large, the call is accepted
   pub accepted-all : beforePool l f r ≡ 0 → poolTooLarge (assessedFile l f) ≡ false → settling l f r ≡ settledAnswer l f r
   accepted-all e p = settling-accepts l f r (pool-decides e ∙ ap (λ (t : Bool). cond t 16 0) p)
+
+  -- where a call of settling answers 0, so do grounds 6 to 15
+  pub none-before : settling l f r .ground ≡ 0 → beforePool l f r ≡ 0
+  none-before e = by (eqb (beforePool l f r) 0) refl
+    where
+      by : (t : Bool) → eqb (beforePool l f r) 0 ≡ t → beforePool l f r ≡ 0
+      by true q = eqb-true (beforePool l f r) 0 q
+      by false q = sym (ap (λ a. a .ground) (refused-before q)) ∙ e

@@ -19,7 +19,7 @@ resultHeaderBytes = 64
 abbrev pub resultRowBytes : ℕ
 resultRowBytes = 64
 
--- a row's eight words in the result, the last of them its credit
+-- the words of rows in a result, eight a row; the last of the eight is what the parameter gives the row as credit
 unfoldable pub rowWords : (ChargedRow → ℕ) → List ChargedRow → List ℕ
 rowWords credited [] = []
 rowWords credited (c ∷ cs) =

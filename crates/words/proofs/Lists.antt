@@ -4,10 +4,11 @@ use mathlib.Core.Path.{_≡_, refl, sym, ap, _∙_}
 use mathlib.Core.Logic.{⊎-elim}
 use mathlib.Core.List.{List, [], _∷_, _++_, map, List·Memᴰ, List·Memᴰ·head, List·Memᴰ·tail, List·Memᴰ·cases-cons, List·Memᴰ·not-nil}
 use mathlib.Core.Bool.{Bool, true, false, _||_, false≢true}
+use native.Mathlib.Nat.{mul-le-mul-right}
 use native.Mathlib.Omega.{arith}
 use lib.ListN.{length, getD}
 use lib.Dec.{eqb}
-use borrow.Author.Tests.{eqb-true, eqb-false, lt-ltb}
+use borrow.Author.Tests.{eqb-true, eqb-false, ne-eqb, lt-ltb}
 use Rattle.words.specs.Lists.{sum, any, risesAbove, rises}
 use Rattle.words.proofs.Tests.{not-first, not-second, either, facts}
 
@@ -23,6 +24,12 @@ module _ {A : Type 0} where
   unfolding sum
   sum-map f g [] = refl
   sum-map f g (x ∷ xs) = ap (λ s. f (g x) + s) (sum-map f g xs)
+
+  -- to test what members are mapped to is to test them by it
+  pub any-map : {B : Type 0} (p : B → Bool) (g : A → B) (xs : List A) → any p (map g xs) ≡ any (λ x. p (g x)) xs
+  unfolding any
+  any-map p g [] = refl
+  any-map p g (x ∷ xs) = ap (λ t. p (g x) || t) (any-map p g xs)
 
   -- a figure that is nowhere larger than another has no larger sum
   pub sum-le : (f g : A → ℕ) (xs : List A) → ((x : A) → f x ≤ g x) → sum f xs ≤ sum g xs
@@ -43,10 +50,14 @@ module _ {A : Type 0} where
   sum-plus f g (x ∷ xs) = omega (arith, sum-plus f g xs)
 
   -- a sum of numbers of at most so much each
-  pub sum-most : (f : A → ℕ) (most : ℕ) (xs : List A) → ((x : A) → List·Memᴰ x xs → f x ≤ most) → sum f xs ≤ length xs * most
+  sum-each : (f : A → ℕ) (most : ℕ) (xs : List A) → ((x : A) → List·Memᴰ x xs → f x ≤ most) → sum f xs ≤ length xs * most
   unfolding sum
-  sum-most f most [] h = omega arith
-  sum-most f most (x ∷ xs) h = omega (arith, h x (List·Memᴰ·head refl), sum-most f most xs (λ y m. h y (List·Memᴰ·tail m)))
+  sum-each f most [] h = omega arith
+  sum-each f most (x ∷ xs) h = omega (arith, h x (List·Memᴰ·head refl), sum-each f most xs (λ y m. h y (List·Memᴰ·tail m)))
+
+  -- and of so many of them or fewer
+  pub sum-most : (f : A → ℕ) (most many : ℕ) (xs : List A) → length xs ≤ many → ((x : A) → List·Memᴰ x xs → f x ≤ most) → sum f xs ≤ many * most
+  sum-most f most many xs few each = omega (arith, sum-each f most xs each, mul-le-mul-right most few)
 
   -- sums of figures that agree on the members
   pub sum-same : (f g : A → ℕ) (xs : List A) → ((x : A) → List·Memᴰ x xs → f x ≡ g x) → sum f xs ≡ sum g xs
@@ -138,6 +149,10 @@ rises-from-zero (x ∷ xs) z e =
 pub member-above : (last : ℕ) {x : ℕ} {xs : List ℕ} → List·Memᴰ x xs → risesAbove last xs ≡ true → last < x
 member-above last (List·Memᴰ·head {x = y} {xs = xs} q) e = omega (arith, q, rises-next last y xs e .0)
 member-above last (List·Memᴰ·tail {x = y} {xs = xs} m) e = let up = rises-next last y xs e in omega (arith, up .0, member-above y m (up .1))
+
+-- so a number at or below that is not among them
+pub not-among : (last r : ℕ) (xs : List ℕ) → risesAbove last xs ≡ true → r ≤ last → any (λ x. eqb x r) xs ≡ false
+not-among last r xs e h = none-pass (λ x. eqb x r) xs (λ x m. ne-eqb x r (λ q. omega (arith, member-above last m e)))
 
 -- each of some words is below a bound
 abbrev pub EachBelow : ℕ → List ℕ → Type 0

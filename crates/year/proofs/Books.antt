@@ -2,9 +2,8 @@
 use Prim.Native.Nat.{ℕ, _+_, _*_, _^_, _<_, _≤_}
 use mathlib.Core.Path.{_≡_, refl, sym, ap, _∙_, subst}
 use mathlib.Core.Logic.{⊎-elim}
-use mathlib.Core.List.{List, [], _∷_, _++_, map, List·Memᴰ, List·Memᴰ·cases-cons, List·Memᴰ·not-nil, Memᴰ·of-map}
+use mathlib.Core.List.{List, [], _∷_, _++_, map, map-map, map-id, List·Memᴰ, List·Memᴰ·cases-cons, List·Memᴰ·not-nil, Memᴰ·of-map}
 use mathlib.Core.Bool.{Bool, true, false, cond}
-use native.Mathlib.Nat.{mul-le-mul-right}
 use native.Mathlib.Omega.{arith}
 use lib.ListN.{length, length-map, drop}
 use lib.Dec.{eqb}
@@ -38,8 +37,7 @@ id-fits block bytes i m =
 -- the accounts of rows given have the ids that they are made of
 pub ids-of-rows : (gs : List GivenRow) (is : List ℕ) → map (λ a. a .id) (map (accountByRows gs) is) ≡ is
 unfolding accountByRows
-ids-of-rows gs [] = refl
-ids-of-rows gs (i ∷ is) = ap (λ rest. i ∷ rest) (ids-of-rows gs is)
+ids-of-rows gs is = map-map (λ a. a .id) (accountByRows gs) is ∙ map-id is
 
 -- and the account of a listed id is found
 pub found : (gs : List GivenRow) (i : ℕ) (is : List ℕ) → List·Memᴰ i is → accountOf i (map (accountByRows gs) is) ≡ accountByRows gs i
@@ -68,8 +66,7 @@ posted-rows v cs gs i =
 -- so posting rows to the accounts of earlier rows makes the accounts of all of them
 pub posted-accounts : (v : Assessed) (cs : List ChargedRow) (gs : List GivenRow) (is : List ℕ)
     → map (postedAll v cs) (map (accountByRows gs) is) ≡ map (accountByRows (gs ++ map (givenOf v) cs)) is
-posted-accounts v cs gs [] = refl
-posted-accounts v cs gs (i ∷ is) = λ k. posted-rows v cs gs i k ∷ posted-accounts v cs gs is k
+posted-accounts v cs gs is = map-map (postedAll v cs) (accountByRows gs) is ∙ ap (λ (f : ℕ → Account). map f is) (λ k i. posted-rows v cs gs i k)
 
 -- what rows given say of a ledger on a block
 pub record Books (block : List ℕ) (l : Ledger) (gs : List GivenRow) : Type 0 where
@@ -124,9 +121,9 @@ module _ (block : List ℕ) (good : GoodBlock block) (l : Ledger) (gs : List Giv
   charges-in : sum (λ g. g .charge) gs ≤ mostCredited
   charges-in =
       let t = terms-in (blockOf block .terms) (good .terms) in
-      let each = sum-most (λ i. sumOfPlant i (λ g. g .charge) gs) mostLimit is
+      let all = sum-most (λ i. sumOfPlant i (λ g. g .charge) gs) mostLimit mostIds is (good .few)
       (λ i m. omega (arith, k .limited i m, limit-le (blockOf block .terms) (largestOfPlant i gs) t (largest-in i))) in
-      omega (arith, parts-make-whole (λ g. g .charge) is rise gs (k .known), each, mul-le-mul-right mostLimit (good .few))
+      omega (arith, parts-make-whole (λ g. g .charge) is rise gs (k .known), all)
 
   -- ground 6 does not refuse the account that the rows given make of a listed id
   plant-in : (i : ℕ) → List·Memᴰ i is → AccountIn (l .terms) (accountByRows gs i)

@@ -1,34 +1,33 @@
 -- The proofs of the claims of specs/Claims.antt.
 use Prim.Native.Nat.{ℕ, _*_, _^_, _<_, _≤_}
-use mathlib.Core.Path.{_≡_, refl, sym, ap, _∙_, subst}
+use mathlib.Core.Path.{_≡_, refl, sym, ap, subst}
 use mathlib.Core.Logic.{_⊎_, inl, ⊎-elim}
 use mathlib.Core.List.{List, List·Memᴰ}
 use mathlib.Core.Bool.{Bool, true, false}
 use native.Mathlib.Omega.{arith}
-use lib.ListN.{length, length-map, drop, getD}
+use lib.ListN.{length, length-map, drop}
 use lib.Dec.{eqb}
 use borrow.Author.Tests.{eqb-true}
-use Rattle.words.specs.Lists.{sum, any}
+use Rattle.words.specs.Lists.{any}
 use Rattle.words.specs.Words.{Bytes, numberAt, word64, written, wordsIn}
 use Rattle.words.specs.Grounds.{answered, outside}
-use Rattle.words.proofs.Words.{numberAt-lt, drop-bytes, entries-all, words-back, word-back, length-written, beyond-written}
+use Rattle.words.proofs.Words.{numberAt-lt, drop-bytes, entries-all, words-back, length-written, beyond-written}
 use Rattle.words.proofs.Grounds.{answered-in}
-use Rattle.reading.specs.Interval.{headerOf, rowsOf}
-use Rattle.assessment.specs.Assessment.{Account, ratioOf, chargedRow, Assessed, assessed, charges, totalBonus, pool, credit, credits}
-use Rattle.ledger.specs.Ledger.{mostCents, ledgerHeaderBytes, accountBytes, Ledger, accountAt, accountCount, ledgerOf, ledgerWords}
+use Rattle.assessment.specs.Assessment.{Account, Assessed, credit}
+use Rattle.ledger.specs.Ledger.{ledgerHeaderBytes, accountBytes, accountAt, accountCount, ledgerOf, ledgerWords}
 use Rattle.ledger.specs.Opening.{openingGrounds, openedLedger, opening}
-use Rattle.settling.proofs.SettledLaws.{length-row-words}
+use Rattle.settling.proofs.SettledLaws.{length-row-words, count-is}
 use Rattle.settling.specs.Settling.{assessedFile, resultWords, postedAll, settlingGrounds, settledLedger, settling}
 use Rattle.year.specs.Year.{Call, newYear, afterCalls}
 use Rattle.year.specs.Claims.{SummedOverRows, SumsOfAYear, NeverLockedOut, Holds, OpeningReadsBack, ReadsBack, SettlingReadsBack, OpeningAnswers, OpeningRefusals, SettlingAnswers, SettlingRefusals}
 use Rattle.ledger.proofs.Sound.{opening-none, block-accepted, ledger-room}
 use Rattle.settling.proofs.Accepted.{settling-none, Accepted, accepted}
-use Rattle.year.proofs.LedgerBack.{Fits, ledger-words-fit, LedgerFits, length-ledger}
-use Rattle.year.proofs.Fits.{made, new-sums, ledger-fits, result-words-fit}
+use Rattle.year.proofs.LedgerBack.{Fits, ledger-words-fit, length-ledger}
+use Rattle.year.proofs.Fits.{new-sums, ledger-fits, result-words-fit, interval-made}
 use Rattle.settling.proofs.SettlingAnswers.{settledAnswer, settling-accepts, settling-refuses}
 use Rattle.ledger.proofs.OpeningAnswers.{opening-accepts, opening-refuses}
 use Rattle.year.proofs.Calls.{after-calls}
-use Rattle.year.proofs.Step.{Kept, good-block, pool-small, interval-made, accept-kept, opened-fits, opened-room, opened-kept}
+use Rattle.year.proofs.Step.{Kept, good-block, accept-kept, opened-fits, opened-room, opened-kept}
 
 -- a year on a block of bytes, after any calls
 kept : (block ledger : List ℕ) → Bytes block → opening block ledger .ground ≡ 0 → (calls : List Call)
@@ -69,38 +68,15 @@ account-id-fits ledger bytes =
     entries-all accountBytes accountAt (λ a. a .id < 2 ^ 64) (λ b bytes. numberAt-lt 8 b 0 bytes) (accountCount ledger) (drop ledgerHeaderBytes ledger)
     (drop-bytes ledgerHeaderBytes ledger bytes)
 
--- an accepted call on a ledger of bytes
-module _ (ledger file result : List ℕ) (bytes : Bytes ledger) (s : Accepted ledger file result) where
-  -- the ledger before the call
-  abbrev l : Ledger
-  l = ledgerOf ledger
-
-  -- the interval that the file makes of it
-  abbrev v : Assessed
-  v = made l (headerOf file) (rowsOf file)
-
-  -- the pool of the interval is at most the most cents allowed
-  small : pool v ≤ mostCents
-  small = pool-small ledger file result s
-
-  -- the values of the ledger after the file fit 64 bits
-  settled-fits : LedgerFits (settledLedger ledger file)
-  unfolding settledLedger assessedFile
-  settled-fits = ledger-fits l (headerOf file) (rowsOf file) (s .rows) small (s .ledger-is) (s .header) (s .days) (account-id-fits ledger bytes)
-
-  -- the words of the result fit 64 bits
-  result-fits : Fits (resultWords (assessedFile ledger file))
-  unfolding assessedFile
-  result-fits = result-words-fit l (headerOf file) (rowsOf file) (s .rows) small (s .header) (s .rows-few)
-
-  -- ledger and result are read back, and charges, credits and bonus are the sums over the rows given
-  settled-back : ReadsBack ledger file result (settledAnswer ledger file result)
-  unfolding assessedFile
-  settled-back = record {
-    ledger-holds = written-held (ledgerWords (settledLedger ledger file)) ledger (ledger-words-fit (settledLedger ledger file) settled-fits);
-    result-holds = written-held (resultWords v) result result-fits;
-    sums = subst SummedOverRows (sym (interval-made ledger file result s)) (new-sums l (headerOf file) (rowsOf file));
-  }
+-- ledger and result of an accepted call on a ledger of bytes are read back, and charges, credits and bonus are the sums over the rows given
+settled-back : (ledger file result : List ℕ) → Bytes ledger → Accepted ledger file result → ReadsBack ledger file result (settledAnswer ledger file result)
+settled-back ledger file result bytes s =
+    let l = settledLedger ledger file in
+    record {
+      ledger-holds = written-held (ledgerWords l) ledger (ledger-words-fit l (ledger-fits ledger file s (account-id-fits ledger bytes)));
+      result-holds = written-held (resultWords (assessedFile ledger file)) result (result-words-fit ledger file s);
+      sums = subst SummedOverRows (sym (interval-made ledger file s)) (new-sums ledger file);
+    }
 
 -- so it is for every accepted call of settling on a ledger of bytes
 pub settling-reads-back : SettlingReadsBack
@@ -143,15 +119,10 @@ module _ (ledger file result : List ℕ) (s : Accepted ledger file result) where
   abbrev w : Assessed
   w = assessedFile ledger file
 
-  -- the interval has as many rows as the file
-  rows-given : length (w .rows) ≡ length (rowsOf file)
-  unfolding assessedFile assessed
-  rows-given = length-map (rowsOf file) (chargedRow (ledgerOf ledger .terms) (ledgerOf ledger .accounts) (ratioOf (headerOf file) (rowsOf file)))
-
   -- writing the result's words keeps the length of the result buffer
   result-length : length (written (resultWords w) result) ≡ length result
   unfolding resultWords
-  result-length = length-written (resultWords w) result (omega (arith, length-row-words (credit w) (w .rows), rows-given, s .room))
+  result-length = length-written (resultWords w) result (omega (arith, length-row-words (credit w) (w .rows), count-is ledger file, s .room))
 
   -- writing the words of the ledger after the file keeps the length of the ledger buffer
   ledger-length : length (written (ledgerWords (settledLedger ledger file)) ledger) ≡ length ledger

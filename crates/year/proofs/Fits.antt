@@ -3,28 +3,27 @@ use Prim.Native.Nat.{ℕ, _+_, _*_, _^_, _<_, _≤_, max}
 use mathlib.Core.Path.{_≡_, refl, sym, subst}
 use mathlib.Core.List.{List, [], _∷_, map, List·Memᴰ, List·Memᴰ·head, List·Memᴰ·tail, Memᴰ·map, Memᴰ·of-map}
 use mathlib.Core.Bool.{Bool, true, false, cond}
-use native.Mathlib.Nat.{mul-le-mul-right}
 use native.Mathlib.Omega.{arith}
 use lib.ListN.{length, length-map, drop, getD}
 use lib.Dec.{eqb}
 use Rattle.words.specs.Lists.{sum}
 use Rattle.words.specs.Words.{numberAt, word64, written}
 use Rattle.words.proofs.Words.{word-back}
-use Rattle.words.proofs.Lists.{sum-le, sum-map, sum-most, below-cons}
-use Rattle.reading.specs.Interval.{mostKilowatts, mostRows, Header, Row}
-use Rattle.reading.proofs.Bounds.{terms-in, HeaderIn, RowIn}
-use Rattle.assessment.specs.Assessment.{ratioOf, numerator, denominator, printedRatio, Account, ChargedRow, chargedRow, Assessed, assessed, charges, totalBonus, pool, credit, credits, carriedOn}
-use Rattle.assessment.proofs.Promises.{FiguresIn, figures-in, printed-le, numerator-le, denominator-le}
+use Rattle.words.proofs.Lists.{sum-le, sum-map, below-cons}
+use Rattle.reading.specs.Interval.{mostKilowatts, Row, headerOf, rowsOf}
+use Rattle.reading.proofs.Bounds.{terms-in}
+use Rattle.assessment.specs.Assessment.{ratioOf, printedRatio, Account, chargedRow, Assessed, assessed, charges, totalBonus, pool, credit, credits, carriedOn}
+use Rattle.assessment.proofs.Promises.{printed-le, denominator-le}
 use Rattle.assessment.proofs.Limits.{limit-le}
 use Rattle.assessment.proofs.Shares.{credits-le}
-use Rattle.ledger.specs.Ledger.{mostCents, Ledger}
-use Rattle.settling.specs.Settling.{resultWords, postedAll}
-use Rattle.settling.proofs.SettledLaws.{RowWithin, row-within, row-words-below}
-use Rattle.year.specs.Year.{GivenRow, GivenInterval, sumOfPlant, largestOfPlant}
+use Rattle.ledger.specs.Ledger.{mostCents, ledgerOf}
+use Rattle.settling.specs.Settling.{resultWords, assessedFile, postedAll, settledLedger}
+use Rattle.settling.proofs.Accepted.{Accepted}
+use Rattle.settling.proofs.SettledLaws.{row-words-below, chargedOf, rows-are, count-is, numerator-fits, bonus-fits, rows-within}
+use Rattle.year.specs.Year.{GivenRow, GivenInterval, givenBy, intervalBy, sumOfPlant, largestOfPlant}
 use Rattle.year.specs.Claims.{SummedOverRows}
-use Rattle.ledger.proofs.Sound.{LedgerIn}
 use Rattle.year.proofs.LedgerBack.{Fits, AccountFits, LedgerFits}
-use Rattle.year.proofs.Given.{givenOf, GivenFits}
+use Rattle.year.proofs.Given.{givenOf, GivenFits, given-back}
 use Rattle.year.proofs.PostedSums.{posted-all}
 
 -- one plant's part of a sum
@@ -46,64 +45,59 @@ largest-le i most (g ∷ gs) each = by (eqb (g .id) i) (largest-le i most gs (λ
     by true below = omega (arith, each g (List·Memᴰ·head refl))
     by false below = omega arith
 
-module _ (l : Ledger) (h : Header) (rs : List Row) where
-  -- the interval that rows make of a ledger, and the rows that it gives
-  abbrev pub made : Assessed
-  made = assessed (l .terms) (l .accounts) (l .carried) h rs
+-- the interval that a file makes of a ledger
+module _ (ledger file : List ℕ) where
+  -- the interval
+  abbrev v : Assessed
+  v = assessedFile ledger file
 
-  -- what the rows of the interval are given
+  -- what its rows are given
   abbrev pub new : List GivenRow
-  new = map (givenOf made) (made .rows)
+  new = map (givenOf v) (v .rows)
 
   -- the charges of the rows given add up to the interval's charges
-  pub new-charges : sum (λ g. g .charge) new ≡ charges made
+  pub new-charges : sum (λ g. g .charge) new ≡ charges v
   unfolding charges givenOf
-  new-charges = sum-map (λ g. g .charge) (givenOf made) (made .rows)
+  new-charges = sum-map (λ g. g .charge) (givenOf v) (v .rows)
 
   -- the credits of the rows given add up to the interval's credits
-  pub new-credits : sum (λ g. g .credit) new ≡ credits made
+  pub new-credits : sum (λ g. g .credit) new ≡ credits v
   unfolding credits givenOf
-  new-credits = sum-map (λ g. g .credit) (givenOf made) (made .rows)
+  new-credits = sum-map (λ g. g .credit) (givenOf v) (v .rows)
 
   -- the bonus of the rows given adds up to the interval's total bonus
-  pub new-bonus : sum (λ g. g .bonus) new ≡ totalBonus made
+  pub new-bonus : sum (λ g. g .bonus) new ≡ totalBonus v
   unfolding totalBonus givenOf
-  new-bonus = sum-map (λ g. g .bonus) (givenOf made) (made .rows)
+  new-bonus = sum-map (λ g. g .bonus) (givenOf v) (v .rows)
 
   -- the interval as it is given
   abbrev pub newInterval : GivenInterval
-  newInterval = record { charges = charges made; credits = credits made; carried = carriedOn made; bonus = totalBonus made; rows = new }
+  newInterval = record { charges = charges v; credits = credits v; carried = carriedOn v; bonus = totalBonus v; rows = new }
 
   -- its charges, credits and total bonus are the sums over its rows
   pub new-sums : SummedOverRows newInterval
   new-sums = record { charges = sym new-charges; credits = sym new-credits; bonus = sym new-bonus }
 
   -- the pool is the cents carried in the ledger plus the charges of the interval
-  pub pool-is : pool made ≡ l .carried + charges made
-  unfolding pool assessed
+  pub pool-is : pool v ≡ ledgerOf ledger .carried + charges v
+  unfolding pool assessedFile assessed
   pool-is = refl
 
   -- a row given comes from a row of the file
-  pub from-row : (g : GivenRow) → List·Memᴰ g new → (r : Row) × List·Memᴰ r rs × (givenOf made (chargedRow (l .terms) (l .accounts) (ratioOf h rs) r) ≡ g)
-  unfolding assessed
+  pub from-row : (g : GivenRow) → List·Memᴰ g new → (r : Row) × List·Memᴰ r (rowsOf file) × (givenOf v (chargedOf ledger file r) ≡ g)
   from-row g m =
-      let (c, at, e) = Memᴰ·of-map (givenOf made) (made .rows) m in
-      let (r, r-at, q) = Memᴰ·of-map (chargedRow (l .terms) (l .accounts) (ratioOf h rs)) rs at in
-      (r, r-at, subst (λ c. givenOf made c ≡ g) (sym q) e)
+      let (c, at, e) = Memᴰ·of-map (givenOf v) (v .rows) m in
+      let (r, r-at, q) = Memᴰ·of-map (chargedOf ledger file) (rowsOf file) (subst (List·Memᴰ c) (rows-are ledger file) at) in
+      (r, r-at, subst (λ c. givenOf v c ≡ g) (sym q) e)
 
-  module _ (rows : (r : Row) → List·Memᴰ r rs → RowIn r) (small : pool made ≤ mostCents) where
-    -- a charged row has its figures in range, and its charge and credit are at most the most cents
-    charged-in : (c : ChargedRow) → List·Memᴰ c (made .rows) → RowWithin mostCents (credit made) c
-    unfolding assessed chargedRow
-    charged-in c m =
-        let (r, at, e) = Memᴰ·of-map (chargedRow (l .terms) (l .accounts) (ratioOf h rs)) rs m in
-        row-within made mostCents small c m (subst (λ c. FiguresIn (c .figures)) e (figures-in (ratioOf h rs) r (rows r at)))
-
+  -- where settling accepts the file
+  module _ {result : List ℕ} (s : Accepted ledger file result) where
     -- what a row of the file is given fits 64 bits
-    pub row-fits : (r : Row) → List·Memᴰ r rs → GivenFits (givenOf made (chargedRow (l .terms) (l .accounts) (ratioOf h rs) r))
-    unfolding assessed givenOf
+    row-fits : (r : Row) → List·Memᴰ r (rowsOf file) → GivenFits (givenOf v (chargedOf ledger file r))
+    unfolding givenOf
     row-fits r m =
-        let c = charged-in (chargedRow (l .terms) (l .accounts) (ratioOf h rs) r) (Memᴰ·map (chargedRow (l .terms) (l .accounts) (ratioOf h rs)) m) in
+        let at = subst (List·Memᴰ (chargedOf ledger file r)) (sym (rows-are ledger file)) (Memᴰ·map (chargedOf ledger file) m) in
+        let c = rows-within ledger file (s .passed) (s .pool) (chargedOf ledger file r) at in
         record {
           shortfall = omega (arith, c .figures .shortfall);
           bonus = omega (arith, c .figures .bonus);
@@ -116,67 +110,74 @@ module _ (l : Ledger) (h : Header) (rs : List Row) where
     unfolding givenOf chargedRow
     new-committed g m =
         let (r, at, e) = from-row g m in
-        subst (λ g. g .committed ≤ mostKilowatts) e (rows r at .committed)
+        subst (λ g. g .committed ≤ mostKilowatts) e (s .rows r at .committed)
 
     -- an account after the interval
-    pub account-fits : LedgerIn l → (a : Account) → List·Memᴰ a (l .accounts) → a .id < 2 ^ 64 → AccountFits (postedAll made (made .rows) a)
-    account-fits s a m id-fits =
-        let p = posted-all made (made .rows) a in
-        let now = s .accounts a m in
-        let most = limit-le (l .terms) (a .largest) (terms-in (l .terms) (s .terms)) (now .largest) in
+    account-fits : (a : Account) → List·Memᴰ a (ledgerOf ledger .accounts) → a .id < 2 ^ 64 → AccountFits (postedAll v (v .rows) a)
+    account-fits a m id-fits =
+        let p = posted-all v (v .rows) a in
+        let now = s .ledger-is .accounts a m in
+        let t = ledgerOf ledger .terms in
+        let most = limit-le t (a .largest) (terms-in t (s .ledger-is .terms)) (now .largest) in
         record {
           id = omega (arith, p .id, id-fits);
           largest = omega (arith, p .largest, now .largest, largest-le (a .id) mostKilowatts new new-committed);
-          charged = omega (arith, p .charged, now .charged, most, part-le (a .id) (λ g. g .charge) new, new-charges, pool-is, small);
-          credited = omega (arith, p .credited, now .credited, part-le (a .id) (λ g. g .credit) new, new-credits, credits-le made, small);
+          charged = omega (arith, p .charged, now .charged, most, part-le (a .id) (λ g. g .charge) new, new-charges, pool-is, s .pool);
+          credited = omega (arith, p .credited, now .credited, part-le (a .id) (λ g. g .credit) new, new-credits, credits-le v, s .pool);
         }
 
     -- the ledger after the interval
-    pub ledger-fits : LedgerIn l → HeaderIn h → h .terms .days ≡ l .terms .days → ((a : Account) → List·Memᴰ a (l .accounts) → a .id < 2 ^ 64)
-        → LedgerFits (record { terms = l .terms; earliest = h .interval + 1; carried = carriedOn made; accounts = map (postedAll made (made .rows)) (l .accounts) })
-    unfolding carriedOn
-    ledger-fits s header same ids-fit =
-        let t = terms-in (l .terms) (s .terms) in
+    pub ledger-fits : ((a : Account) → List·Memᴰ a (ledgerOf ledger .accounts) → a .id < 2 ^ 64) → LedgerFits (settledLedger ledger file)
+    unfolding settledLedger carriedOn
+    ledger-fits ids-fit =
+        let l = ledgerOf ledger in
+        let t = terms-in (l .terms) (s .ledger-is .terms) in
         record {
           netCone = omega (arith, t .netCone);
           days = omega (arith, t .days);
-          earliest = omega (arith, header .interval, same, t .days);
-          carried = omega (arith, small);
-          count = omega (arith, length-map (l .accounts) (postedAll made (made .rows)), s .few);
-          accounts = λ b at. let (a, m, e) = Memᴰ·of-map (postedAll made (made .rows)) (l .accounts) at in
-              subst AccountFits e (account-fits s a m (ids-fit a m));
+          earliest = omega (arith, s .header .interval, s .days, t .days);
+          carried = omega (arith, s .pool);
+          count = omega (arith, length-map (l .accounts) (postedAll v (v .rows)), s .ledger-is .few);
+          accounts = λ b at. let (a, m, e) = Memᴰ·of-map (postedAll v (v .rows)) (l .accounts) at in
+              subst AccountFits e (account-fits a m (ids-fit a m));
         }
 
-    -- the total bonus is at most twice the most kW for each charged row
-    bonus-in : totalBonus made ≤ length (made .rows) * (2 * mostKilowatts)
-    unfolding totalBonus
-    bonus-in = sum-most (λ c. c .figures .bonus) (2 * mostKilowatts) (made .rows) (λ c m. charged-in c m .figures .bonus)
-
-    -- there are as many charged rows as rows
-    rows-as-many : length (made .rows) ≡ length rs
-    unfolding assessed
-    rows-as-many = length-map rs (chargedRow (l .terms) (l .accounts) (ratioOf h rs))
-
-    -- both sides of the ratio fit 64 bits, where the header is in range and the rows are not too many
-    ratio-in : HeaderIn h → length rs ≤ mostRows → (made .ratio .numerator < 2 ^ 64) × (made .ratio .denominator < 2 ^ 64)
-    unfolding assessed ratioOf
-    ratio-in header few = (omega (arith, numerator-le h rs header few rows), omega (arith, denominator-le rs few rows))
+    -- both sides of the ratio fit 64 bits
+    ratio-in : (v .ratio .numerator < 2 ^ 64) × (v .ratio .denominator < 2 ^ 64)
+    unfolding assessedFile assessed ratioOf
+    ratio-in = (omega (arith, numerator-fits ledger file (s .passed)), omega (arith, denominator-le (rowsOf file) (s .rows-few) (s .rows)))
 
     -- the result of the interval
-    pub result-words-fit : HeaderIn h → length rs ≤ mostRows → Fits (resultWords made)
+    pub result-words-fit : Fits (resultWords v)
     unfolding resultWords
-    result-words-fit header few =
-        let q = ratio-in header few in
-        let many = mul-le-mul-right (2 * mostKilowatts) few in
-        let each = row-words-below (2 ^ 64) mostCents (omega arith) (omega arith) (credit made) (made .rows) charged-in in
-        let n = below-cons (length (made .rows)) _ (omega (arith, rows-as-many, few)) each in
-        let ratio = below-cons (made .ratio .numerator) _ (q .0) (below-cons (made .ratio .denominator) _ (q .1) n) in
-        let bonus = below-cons (totalBonus made) _ (omega (arith, rw rows-as-many at bonus-in, many)) ratio in
-        let on = below-cons {n = 2 ^ 64} (carriedOn made) _ (unfold carriedOn in omega (arith, small)) bonus in
-        let cents = below-cons (charges made) _ (omega (arith, pool-is, small)) (below-cons (credits made) _ (omega (arith, credits-le made, small)) on) in
-        below-cons (printedRatio (made .ratio)) _ (omega (arith, printed-le (made .ratio))) cents
+    result-words-fit =
+        let q = ratio-in in
+        let each = row-words-below (2 ^ 64) mostCents (omega arith) (omega arith) (credit v) (v .rows) (rows-within ledger file (s .passed) (s .pool)) in
+        let n = below-cons (length (v .rows)) _ (omega (arith, count-is ledger file, s .passed .rows-few)) each in
+        let ratio = below-cons (v .ratio .numerator) _ (q .0) (below-cons (v .ratio .denominator) _ (q .1) n) in
+        let bonus = below-cons (totalBonus v) _ (omega (arith, bonus-fits ledger file (s .passed))) ratio in
+        let on = below-cons {n = 2 ^ 64} (carriedOn v) _ (unfold carriedOn in omega (arith, s .pool)) bonus in
+        let cents = below-cons (charges v) _ (omega (arith, pool-is, s .pool)) (below-cons (credits v) _ (omega (arith, credits-le v, s .pool)) on) in
+        below-cons (printedRatio (v .ratio)) _ (omega (arith, printed-le (v .ratio))) cents
 
-    -- a word of the interval is read back from a buffer that the result has been written to
-    pub result-word : HeaderIn h → length rs ≤ mostRows → (result : List ℕ) (k : ℕ) → k < 8 → word64 (written (resultWords made) result) k ≡ getD (resultWords made) k 0
+    -- a word of the interval is read back from the result that has been written
+    result-word : (k : ℕ) → k < 8 → word64 (written (resultWords v) result) k ≡ getD (resultWords v) k 0
     unfolding word64 numberAt written resultWords
-    result-word header few result k h = word-back 8 (resultWords made) (drop (8 * length (resultWords made)) result) k (result-words-fit header few) (omega arith)
+    result-word k h = word-back 8 (resultWords v) (drop (8 * length (resultWords v)) result) k result-words-fit (omega arith)
+
+    -- the rows read back are those that the interval gives
+    given-made : givenBy file (written (resultWords v) result) ≡ new
+    given-made =
+        let l = ledgerOf ledger in
+        given-back v (l .terms) (l .accounts) (ratioOf (headerOf file) (rowsOf file)) file result (rows-are ledger file) row-fits
+
+    -- and the whole interval is read back as it is given
+    pub interval-made : intervalBy file (written (resultWords v) result) ≡ newInterval
+    unfolding intervalBy resultWords
+    interval-made = λ i. record {
+      charges = result-word 1 (omega arith) i;
+      credits = result-word 2 (omega arith) i;
+      carried = result-word 3 (omega arith) i;
+      bonus = result-word 4 (omega arith) i;
+      rows = given-made i;
+    }

@@ -13,19 +13,19 @@ use Rattle.words.proofs.Lists.{sum-append, sum-map, found-member}
 use Rattle.reading.specs.Block.{blockOf}
 use Rattle.reading.specs.Interval.{Row, headerOf, rowsOf}
 use Rattle.reading.proofs.Bounds.{terms-in, length-ids, ids-rise}
-use Rattle.assessment.specs.Assessment.{Ratio, ratioOf, limit, emptyAccount, accountOf, chargedRow, Assessed, assessed, pool, carriedOn}
+use Rattle.assessment.specs.Assessment.{Ratio, ratioOf, limit, emptyAccount, accountOf, chargedRow, Assessed, assessed, carriedOn}
 use Rattle.assessment.proofs.Promises.{exclusive}
 use Rattle.assessment.proofs.Shares.{credits-le, carried-lt}
-use Rattle.ledger.specs.Ledger.{mostCents, Ledger, ledgerBytes, ledgerOf, ledgerWords, idsIn, notALedger}
+use Rattle.ledger.specs.Ledger.{Ledger, ledgerBytes, ledgerOf, ledgerWords, idsIn, notALedger}
 use Rattle.ledger.specs.Opening.{openedLedger}
-use Rattle.settling.specs.Settling.{assessedFile, resultWords, postedAll, settledLedger, settling}
-use Rattle.year.specs.Year.{Call, GivenRow, GivenInterval, givenBy, intervalBy, Year, newYear, afterAnswer, sumOfPlant, largestOfPlant, accountByRows, rowsWithBonus}
+use Rattle.settling.specs.Settling.{assessedFile, postedAll, settledLedger, settling}
+use Rattle.year.specs.Year.{Call, GivenRow, GivenInterval, Year, newYear, afterAnswer, sumOfPlant, largestOfPlant, accountByRows, rowsWithBonus}
 use Rattle.year.specs.Claims.{SummedOverRows, SumsHold}
 use Rattle.ledger.proofs.Sound.{BlockAccepted, ledger-room}
 use Rattle.settling.proofs.Accepted.{Accepted, accepted}
 use Rattle.year.proofs.LedgerBack.{AccountFits, LedgerFits, ledger-back, written-holds}
-use Rattle.year.proofs.Given.{givenOf, given-back}
-use Rattle.year.proofs.Fits.{made, new, new-charges, new-credits, new-bonus, newInterval, new-sums, pool-is, from-row, row-fits, new-committed, ledger-fits, result-word}
+use Rattle.year.proofs.Given.{givenOf}
+use Rattle.year.proofs.Fits.{new, new-charges, new-credits, new-bonus, newInterval, new-sums, pool-is, from-row, new-committed, ledger-fits, interval-made}
 use Rattle.year.proofs.Totals.{largest-append, plant-append}
 use Rattle.year.proofs.Limits.{within-limit}
 use Rattle.settling.proofs.SettlingAnswers.{settledAnswer}
@@ -49,35 +49,6 @@ carried-word : (b : List ℕ) → word64 b 4 ≡ ledgerOf b .carried
 unfolding ledgerOf
 carried-word b = refl
 
--- the pool of a file that settling accepts is at most the most cents
-pub pool-small : (ledger file result : List ℕ) → Accepted ledger file result → pool (made (ledgerOf ledger) (headerOf file) (rowsOf file)) ≤ mostCents
-unfolding assessedFile
-pool-small ledger file result s = s .pool
-
--- the rows read back from the result that such a file leaves are those that the interval gives
-given-made : (ledger file result : List ℕ) → Accepted ledger file result
-    → givenBy file (written (resultWords (made (ledgerOf ledger) (headerOf file) (rowsOf file))) result) ≡ new (ledgerOf ledger) (headerOf file) (rowsOf file)
-unfolding assessed
-given-made ledger file result s =
-    let l = ledgerOf ledger in
-    let h = headerOf file in
-    let rs = rowsOf file in
-    given-back (made l h rs) (l .terms) (l .accounts) (ratioOf h rs) file result refl (row-fits l h rs (s .rows) (pool-small ledger file result s))
-
--- and the whole interval is read back as it is given
-pub interval-made : (ledger file result : List ℕ) → Accepted ledger file result
-    → intervalBy file (written (resultWords (made (ledgerOf ledger) (headerOf file) (rowsOf file))) result) ≡ newInterval (ledgerOf ledger) (headerOf file) (rowsOf file)
-unfolding intervalBy resultWords
-interval-made ledger file result s =
-    let word = result-word (ledgerOf ledger) (headerOf file) (rowsOf file) (s .rows) (pool-small ledger file result s) (s .header) (s .rows-few) result in
-    λ i. record {
-      charges = word 1 (omega arith) i;
-      credits = word 2 (omega arith) i;
-      carried = word 3 (omega arith) i;
-      bonus = word 4 (omega arith) i;
-      rows = given-made ledger file result s i;
-    }
-
 -- an accepted call on a year that keeps the sums
 module _ (block : List ℕ) (bytes : Bytes block) (good : GoodBlock block) (y : Year) (k : Kept block y) (c : Call)
     (e : settling (y .ledger) (c .file) (c .result) .ground ≡ 0) where
@@ -95,49 +66,46 @@ module _ (block : List ℕ) (bytes : Bytes block) (good : GoodBlock block) (y : 
 
   -- the interval that the file makes of the ledger
   abbrev v : Assessed
-  v = made l (headerOf (c .file)) rs
+  v = assessedFile (y .ledger) (c .file)
 
   -- the rows that the interval gives
   abbrev gs : List GivenRow
-  gs = new l (headerOf (c .file)) rs
+  gs = new (y .ledger) (c .file)
 
   -- the ledger, the file and the result buffer are ones that settling accepts
   s : Accepted (y .ledger) (c .file) (c .result)
   s = accepted (y .ledger) (c .file) (c .result) e
 
-  -- the pool of the interval is at most the most cents allowed
-  small : pool v ≤ mostCents
-  small = pool-small (y .ledger) (c .file) (c .result) s
-
   -- the ledger after the call
-  after : Ledger
-  after = record { terms = l .terms; earliest = headerOf (c .file) .interval + 1; carried = carriedOn v; accounts = map (postedAll v (v .rows)) (l .accounts) }
+  abbrev after : Ledger
+  after = settledLedger (y .ledger) (c .file)
 
   -- the values of the ledger after the call fit 64 bits
   after-fits : LedgerFits after
-  unfolding after accountByRows
-  after-fits = ledger-fits l (headerOf (c .file)) rs (s .rows) small (s .ledger-is) (s .header) (s .days)
+  unfolding accountByRows
+  after-fits = ledger-fits (y .ledger) (c .file) s
       (λ a m. let (i, at, p) = Memᴰ·of-map (accountByRows (y .given)) (blockOf block .ids) (subst (List·Memᴰ a) (k .books .accounts) m) in
       subst (λ a. a .id < 2 ^ 64) p (id-fits block bytes i at))
 
   -- the sums with the rows given added
   new-accounts : after .accounts ≡ map (accountByRows (y .given ++ gs)) (blockOf block .ids)
-  unfolding after
+  unfolding settledLedger
   new-accounts = ap (map (postedAll v (v .rows))) (k .books .accounts) ∙ posted-accounts v (v .rows) (y .given) (blockOf block .ids)
 
   -- all charges given are all credits given plus the cents carried after the call
   new-closes : sum (λ g. g .charge) (y .given ++ gs) ≡ sum (λ g. g .credit) (y .given ++ gs) + after .carried
-  unfolding after carriedOn
+  unfolding settledLedger carriedOn
   new-closes =
-      let h = headerOf (c .file) in
+      let charged = new-charges (y .ledger) (c .file) in
+      let credited = new-credits (y .ledger) (c .file) in
       rw (sum-append (λ g. g .charge) (y .given) gs, sum-append (λ g. g .credit) (y .given) gs)
-      (omega (arith, k .books .closes, new-charges l h rs, new-credits l h rs, pool-is l h rs, credits-le v))
+      (omega (arith, k .books .closes, charged, credited, pool-is (y .ledger) (c .file), credits-le v))
 
   -- a plant's charges so far and in the file stay under the limit of its largest commitment in both
   under-limit : (i : ℕ) → List·Memᴰ i (blockOf block .ids)
       → sumOfPlant i (λ g. g .charge) (y .given) + sumOfPlant i (λ g. g .charge) gs
       ≤ limit (l .terms) (max (largestOfPlant i (y .given)) (largestOfPlant i gs))
-  unfolding assessed accountByRows
+  unfolding assessedFile assessed accountByRows
   under-limit i m =
       let own : accountOf i (l .accounts) ≡ accountByRows (y .given) i = ap (accountOf i) (k .books .accounts) ∙ found (y .given) i (blockOf block .ids) m in
       let step = subst (λ a. a .charged ≤ limit (l .terms) (a .largest)
@@ -157,7 +125,7 @@ module _ (block : List ℕ) (bytes : Bytes block) (good : GoodBlock block) (y : 
   new-known : (g : GivenRow) → List·Memᴰ g gs → List·Memᴰ (g .id) (blockOf block .ids)
   unfolding givenOf chargedRow
   new-known g m =
-      let (r, at, p) = from-row l (headerOf (c .file)) rs g m in
+      let (r, at, p) = from-row (y .ledger) (c .file) g m in
       let id-in = found-member (r .id) (idsIn l) (s .ids-known r at) in
       subst (λ g. List·Memᴰ (g .id) (blockOf block .ids)) p (subst (List·Memᴰ (r .id)) (same-ids block good l (y .given) (k .books)) id-in)
 
@@ -165,52 +133,52 @@ module _ (block : List ℕ) (bytes : Bytes block) (good : GoodBlock block) (y : 
   new-exclusive : (g : GivenRow) → List·Memᴰ g gs → (g .shortfall ≡ 0) ⊎ (g .bonus ≡ 0)
   unfolding givenOf chargedRow
   new-exclusive g m =
-      let (r, at, p) = from-row l (headerOf (c .file)) rs g m in
+      let (r, at, p) = from-row (y .ledger) (c .file) g m in
       subst (λ g. (g .shortfall ≡ 0) ⊎ (g .bonus ≡ 0)) p (exclusive q r)
 
   -- the ledger after the call has the books of the earlier and the new rows
   new-books : Books block after (y .given ++ gs)
-  unfolding after
+  unfolding settledLedger
   new-books = record {
     terms = k .books .terms;
     accounts = new-accounts;
     closes = new-closes;
     limited = new-limited;
     known = λ g m. ⊎-elim (k .books .known g) (new-known g) (List·Memᴰ·append-cases (y .given) m);
-    committed = λ g m. ⊎-elim (k .books .committed g) (new-committed l (headerOf (c .file)) rs (s .rows) small g) (List·Memᴰ·append-cases (y .given) m);
+    committed = λ g m. ⊎-elim (k .books .committed g) (new-committed (y .ledger) (c .file) s g) (List·Memᴰ·append-cases (y .given) m);
   }
 
   -- where the new rows have bonus, the cents carried are fewer than the rows with bonus
   new-rest : 0 < sum (λ g. g .bonus) gs → carriedOn v < rowsWithBonus gs
-  unfolding rowsWithBonus givenOf
+  unfolding rowsWithBonus givenOf assessedFile
   new-rest p =
-      let h = headerOf (c .file) in
-      rw (sum-map (λ g. cond (ltb 0 (g .bonus)) 1 0) (givenOf v) (v .rows)) (carried-lt (l .terms) (l .accounts) (l .carried) h rs (rw (new-bonus l h rs) at p))
+      let some = rw (new-bonus (y .ledger) (c .file)) at p in
+      rw (sum-map (λ g. cond (ltb 0 (g .bonus)) 1 0) (givenOf v) (v .rows)) (carried-lt (l .terms) (l .accounts) (l .carried) (headerOf (c .file)) rs some)
 
   -- the interval given has the sums over its own rows
-  new-summed : (i : GivenInterval) → List·Memᴰ i (newInterval l (headerOf (c .file)) rs ∷ []) → SummedOverRows i
-  new-summed i m = subst SummedOverRows (sym (List·Memᴰ·eq-of-singleton m)) (new-sums l (headerOf (c .file)) rs)
+  new-summed : (i : GivenInterval) → List·Memᴰ i (newInterval (y .ledger) (c .file) ∷ []) → SummedOverRows i
+  new-summed i m = subst SummedOverRows (sym (List·Memᴰ·eq-of-singleton m)) (new-sums (y .ledger) (c .file))
 
   -- ground 6 does not refuse the ledger that is left
   left-holds : notALedger (written (ledgerWords after) (y .ledger)) ≡ false
-  unfolding after
+  unfolding settledLedger
   left-holds =
       let room = ledger-room (y .ledger) (k .holds) in
       let n = length-map (l .accounts) (postedAll v (v .rows)) in
       let early = s .header .interval in
       written-holds after (y .ledger) after-fits (rw n room)
-      (in-order block good after (y .given ++ gs) new-books (omega (arith, early, s .days)) (unfold carriedOn in omega (arith, small)))
+      (in-order block good after (y .given ++ gs) new-books (omega (arith, early, s .days)) (unfold carriedOn in omega (arith, s .pool)))
 
   -- so an accepted call keeps the sums, the books, and a ledger that ground 6 does not refuse
   pub accept-kept : Kept block (afterAnswer y c (settledAnswer (y .ledger) (c .file) (c .result)))
-  unfolding afterAnswer settledLedger assessedFile after
+  unfolding afterAnswer settledLedger
   accept-kept =
       let left = written (ledgerWords after) (y .ledger) in
       let back : ledgerOf left ≡ after = ledger-back after (y .ledger) after-fits in
       let carried : word64 left 4 ≡ carriedOn v = carried-word left ∙ ap (λ l. l .carried) back in
       let books = subst (λ l. Books block l (y .given ++ gs)) (sym back) new-books in
       subst (λ i. Kept block (record { ledger = left; intervals = y .intervals ++ (i ∷ []); given = y .given ++ i .rows; last = i }))
-      (sym (interval-made (y .ledger) (c .file) (c .result) s))
+      (sym (interval-made (y .ledger) (c .file) s))
       (record {
         sums = record {
           closes = rw carried new-closes;
@@ -235,8 +203,7 @@ module _ (block ledger : List ℕ) (s : BlockAccepted block ledger) where
   -- the empty accounts of ids are their accounts by no rows
   empty-accounts : (is : List ℕ) → map emptyAccount is ≡ map (accountByRows []) is
   unfolding emptyAccount accountByRows sumOfPlant largestOfPlant sum
-  empty-accounts [] = refl
-  empty-accounts (i ∷ is) = ap (λ rest. emptyAccount i ∷ rest) (empty-accounts is)
+  empty-accounts is = refl
 
   -- an opened ledger has the books of no rows
   opened-books : Books block opened []

@@ -7,17 +7,12 @@ use native.Mathlib.Omega.{arith}
 use lib.Dec.{eqb}
 use borrow.Author.Tests.{eq-eqb, ne-eqb}
 use Rattle.words.specs.Lists.{sum, risesAbove}
-use Rattle.words.proofs.Lists.{sum-append, sum-zero, sum-plus, rises-next, member-above}
+use Rattle.words.proofs.Lists.{sum-append, sum-zero, sum-plus, sum-same, rises-next, member-above}
 use Rattle.year.specs.Year.{GivenRow, sumOfPlant, largestOfPlant}
 
 -- ids above a number do not hit it
 none-hit : (i x last : ℕ) (is : List ℕ) → risesAbove last is ≡ true → i ≤ last → sum (λ j. cond (eqb i j) x 0) is ≡ 0
-unfolding sum
-none-hit i x last [] e h = refl
-none-hit i x last (j ∷ is) e h =
-    let up = rises-next last j is e in
-    let other : eqb i j ≡ false = ne-eqb i j (λ q. omega arith) in
-    rw other (omega (arith, none-hit i x j is (up .1) (omega arith)))
+none-hit i x last is e h = sum-same (λ j. cond (eqb i j) x 0) (λ j. 0) is (λ j m. rw (ne-eqb i j (λ q. omega (arith, member-above last m e)))) ∙ sum-zero is
 
 -- of ids that rise, one hits a member
 one-hit : (x last : ℕ) {i : ℕ} {is : List ℕ} → List·Memᴰ i is → risesAbove last is ≡ true → sum (λ j. cond (eqb i j) x 0) is ≡ x

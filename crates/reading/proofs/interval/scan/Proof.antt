@@ -1,5 +1,5 @@
 -- `reading::interval::scan` meets its contract. What is left to test are the rows from i on for ground 13, then those from k on, and in row k the points from j on, for 14.
-use Prim.Native.Nat.{ℕ, _+_, _-_, _*_, _≤_}
+use Prim.Native.Nat.{_+_, _-_, _*_, _≤_}
 use mathlib.Core.Path.{_≡_, sym, ap, ap₂, _∙_}
 use mathlib.Core.List.{[]}
 use mathlib.Core.Bool.{false, _||_}

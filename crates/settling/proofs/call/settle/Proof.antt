@@ -5,7 +5,7 @@ use mathlib.Core.Path.{_≡_, _∙_}
 use Rattle.assessment.specs.Assessment.{pool}
 use Rattle.ledger.specs.Ledger.{ledgerBytes, ledgerOf}
 use Rattle.settling.specs.Settling.{assessedFile}
-use Rattle.settling.proofs.SettlingTests.{passed, result-room}
+use Rattle.settling.proofs.SettlingTests.{unrefused, passed}
 use Rattle.settling.proofs.SettlingEnds.{carried-in, end-16, end-settled}
 use Rattle.settling.proofs.SettledLaws.{charges-fit, pool-of}
 use borrow.Author.Needs.{needs}
@@ -58,7 +58,7 @@ write-settled-requires c κs =
     let charged = word .before .before .before .before in
     let pre = charged .before .before .before .before .before .before .before .pre in
     let sums = charged .assess .ensures in
-    (passed _ _ _ (pre .0), (result-room _ _ _ (pre .0), (sums .0, (sums .1 .0, (sums .1 .1 .0, (sums .1 .1 .1, (sum .plus .ensures ∙ pool-is word, omega (arith, test .if1 .left))))))))
+    (passed _ _ _ (pre .0), (unrefused _ _ _ (pre .0) .room, (sums .0, (sums .1 .0, (sums .1 .1 .0, (sums .1 .1 .1, (sum .plus .ensures ∙ pool-is word, omega (arith, test .if1 .left))))))))
 
 same-length-3 : tie.Need-same-length-3
 same-length-3 c = search needs

@@ -14,38 +14,46 @@ use Rattle.settling.proofs.SettlingTests.{accounts-lie, settling-6, set
 use Rattle.settling.proofs.grounds.refusal.Statement.{statement}
 use Rattle.settling.proofs.grounds.refusal.Tie as tie
 
--- what is known once each test is passed
+-- past the first test, ground 6 does not apply
 passed-6 : (c : tie.Else1) → notALedger (c .before .before .before .before .before .args .ledger .now) ≡ false
 passed-6 c = sym (c .before .not-a-ledger .ensures) ∙ c .if1 .left
 
+-- so the ledger has its header
 ledger-room : (c : tie.Else1) → 64 ≤ length (c .before .before .before .before .before .args .ledger .now)
 unfolding ledgerBytes
 ledger-room c = omega (arith, accounts-lie _ (passed-6 c))
 
+-- past the second, ground 7 does not apply
 passed-7 : (c : tie.Else2) → notAFile (c .before .before .before .before .before .before .before .args .file .now) ≡ false
 passed-7 c = sym (c .before .not-a-file .ensures) ∙ c .if2 .left
 
+-- so the file has its header
 file-room : (c : tie.Else2) → 40 ≤ length (c .before .before .before .before .before .before .before .args .file .now)
 file-room c = file-has-header _ (passed-7 c)
 
+-- past the third, ground 8 does not apply
 passed-8 : (c : tie.Else3)
     → let start = c .before .before .before .before .before .before .before .before .before in
     otherTerms (start .args .ledger .now) (start .args .file .now) ≡ false
 passed-8 c = sym (c .before .other-terms .ensures) ∙ c .if3 .left
 
+-- past the fourth, ground 9 does not apply
 passed-9 : (c : tie.Else4) → headerOutside (headerOf (c .before .before .before .before .before .before .before .before .before .before .before .args .file .now)) ≡ false
 passed-9 c = sym (c .before .header-outside .ensures) ∙ c .if4 .left
 
+-- past the fifth, the interval is not before the ledger's earliest
 passed-10 : (c : tie.Else5)
     → let start = c .before .before .before .before .before .before .before .before .before .before .before .before .before .before in
     ledgerOf (start .args .ledger .now) .earliest ≤ headerOf (start .args .file .now) .interval
 unfolding ledgerOf headerOf
 passed-10 c = omega (arith, c .if5 .left, c .before .before .word .ensures .0, c .before .word2 .ensures)
 
+-- past the sixth, ground 11 does not apply
 passed-11 : (c : tie.Else6)
     → tablesMisplaced (c .before .before .before .before .before .before .before .before .before .before .before .before .before .before .before .before .args .file .now) ≡ false
 passed-11 c = sym (c .before .tables-misplaced .ensures) ∙ c .if6 .left
 
+-- past the seventh, none of grounds 6 to 12 applies
 tested : (c : tie.Else7)
     → let start = c .before .before .before .before .before .before .before .before .before .before .before .before .before .before .before .before .before .before in
     Tested (start .args .ledger .now) (start .args .file .now)

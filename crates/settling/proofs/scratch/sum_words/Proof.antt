@@ -1,5 +1,5 @@
 -- `settling::scratch::sum_words` meets its contract. What is left to add is word k of the rows from i on.
-use Prim.Native.Nat.{_+_, _-_, _*_, _≤_}
+use Prim.Native.Nat.{_+_, _-_, _≤_}
 use mathlib.Core.Path.{_≡_}
 use native.Mathlib.Omega.{arith}
 use borrow.Author.Needs.{needs}
