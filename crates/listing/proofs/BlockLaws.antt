@@ -1,12 +1,11 @@
 -- The laws of blocks: a buffer filled with zeros, the lines of a file's rows, and what is printed for an accepted and a refused file.
-use Prim.Native.Nat.{ℕ, suc, _+_, _*_, _≤_, _<_}
+use Prim.Native.Nat.{ℕ, _+_, _*_, _≤_, _<_}
 use mathlib.Core.Path.{_≡_, refl, sym, ap, ap₂, _∙_}
 use mathlib.Core.List.{List, [], _∷_, _++_, append-nil}
 use mathlib.Core.Bool.{true, false}
-use native.Mathlib.Numerals.{add-one}
 use native.Mathlib.Omega.{arith}
-use lib.ListN.{length, drop, getD, set, replicate, length-append, length-replicate, replicate-append-replicate, drop-of-length-le}
-use lib.Seq.{drop-drop, drop-cons, set-at, append-snoc}
+use lib.ListN.{length, drop, replicate, length-append, drop-of-length-le}
+use lib.Seq.{drop-drop}
 use lib.Dec.{eqb}
 use borrow.Author.Tests.{eq-eqb, ne-eqb}
 use Rattle.words.specs.Words.{wordsIn, placedAt}
@@ -24,14 +23,6 @@ use Rattle.listing.specs.Lines.{line, refusedLine}
 use Rattle.listing.specs.Npalist.{rowLines, poolLine, intervalLines, ledgerBuffer, resultBuffer, openingListed, intervalListed}
 use Rattle.listing.specs.Room.{refusedRoom, rowRoom, poolRoom, blockRoom}
 use Rattle.words.proofs.Placing.{place-none, then-place, place-rest, place-end}
-
--- one more byte filled with zero
-pub clear-turn : (i : ℕ) (b₀ b : List ℕ) → i < length b₀ → b ≡ replicate i 0 ++ drop i b₀ → set b i 0 ≡ replicate (i + 1) 0 ++ drop (i + 1) b₀
-clear-turn i b₀ b h e =
-    ap (λ l. set l i 0) (e ∙ ap (λ l. replicate i 0 ++ l) (drop-cons b₀ i 0 h))
-    ∙ set-at (replicate i 0) (getD b₀ i 0) (drop (suc i) b₀) 0 i (length-replicate i 0)
-    ∙ sym (append-snoc (replicate i 0) 0 (drop (suc i) b₀))
-    ∙ ap₂ (λ p q. p ++ drop q b₀) (replicate-append-replicate i 1 0) (sym (add-one i))
 
 -- all bytes filled
 pub clear-end : (i : ℕ) (b₀ b : List ℕ) → i ≡ length b₀ → b ≡ replicate i 0 ++ drop i b₀ → b ≡ replicate (length b₀) 0
@@ -108,6 +99,10 @@ pub result-cleared : (r : List ℕ) → length r ≡ 64 + 64 * 512 → replicate
 unfolding resultBuffer
 result-cleared r e = ap (λ n. replicate n 0) e
 
+-- what settling leaves in such a result buffer
+pub result-left : (l f r x : List ℕ) → r ≡ resultBuffer → x ≡ settling l f r .result → x ≡ settling l f resultBuffer .result
+result-left l f r x zeros e = e ∙ ap (λ b. settling l f b .result) zeros
+
 -- a ledger buffer for 512 accounts, filled with zeros, is the one that the listing begins with
 pub ledger-cleared : (l : List ℕ) → length l ≡ 64 + 32 * 512 → replicate (length l) 0 ≡ ledgerBuffer
 unfolding ledgerBuffer ledgerBytes
@@ -166,7 +161,7 @@ module _ (number ground : ℕ) (l file r after : List ℕ) (zeros : r ≡ result
       let rows = rowLines (headerOf file .interval) (rowsOf file) (drop 64 result) in
       let pool = poolLine interval result in
       let both = then-place 0 rows pool out x y m end (omega arith) first from second behind in
-      let final : result ≡ answer .result = is ∙ ap (λ b. settling l file b .result) zeros in
+      let final : result ≡ answer .result = result-left l file r result zeros is in
       ends end (rows ++ pool) out y
       (ap₂ (λ w b. rowLines (headerOf file .interval) (rowsOf file) (drop 64 b) ++ poolLine w b) word final ∙ sym (settled-lines number file answer (sym same ∙ none)))
       (both .0) (both .1) (omega arith)

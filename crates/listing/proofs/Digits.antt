@@ -44,12 +44,12 @@ digits-most (suc n) v = by (ltb v 10) refl (digits-most n (v / 10))
     by true e tenth = rw (one-digit n v (ltb-true v 10 e)) (omega arith)
     by false e tenth = rw (more-digits n v (ltb-false v 10 e)) (omega (arith, length-append (digits n (v / 10)) ((48 + v % 10) ∷ [])))
 
--- the same of a number that a 64-bit word holds
+-- a number below ten in decimal is one digit
 pub decimal-one : (v : ℕ) → v < 10 → decimal v ≡ (48 + v) ∷ []
 unfolding decimal
 decimal-one v h = one-digit 19 v h
 
--- the digits of one from 10 on are those of its tenth and then its last digit
+-- the digits of a 64-bit word from 10 on are those of its tenth and then its last digit
 pub decimal-more : (v : ℕ) → v < 2 ^ 64 → 10 ≤ v → decimal v ≡ decimal (v / 10) ++ (48 + v % 10) ∷ []
 unfolding decimal
 decimal-more v fits h = more-digits 19 v h ∙ ap (λ ds. ds ++ (48 + v % 10) ∷ []) (same-digits 18 19 (v / 10) (omega arith) (omega arith))

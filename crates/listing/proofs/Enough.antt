@@ -1,16 +1,16 @@
 -- A block depends on no byte behind it: a length and the bytes due behind it are enough to read, and what is left is the rest of the stream.
-use Prim.Native.Nat.{ℕ, zero, suc, _+_, _-_, _*_, _≤_, _<_}
+use Prim.Native.Nat.{ℕ, zero, suc, _+_, _*_, _≤_, _<_}
 use mathlib.Core.Path.{_≡_, refl, sym, ap, ap₂, _∙_}
 use mathlib.Core.List.{List, [], _∷_}
 use mathlib.Core.Bool.{Bool, true, false}
 use native.Mathlib.Omega.{arith}
 use lib.ListN.{length, take, drop}
-use lib.Seq.{length-take-le, take-all, take-take, take-add, drop-at, drop-drop}
+use lib.Seq.{length-take-le, take-all, take-take, take-add, drop-at}
 use lib.Dec.{ltb}
 use borrow.Author.Tests.{ltb-true, ltb-false}
 use Rattle.words.specs.Words.{number, numberAt, word32}
-use Rattle.listing.specs.Npalist.{nextBlock, blockListed, mostBytes, bytesDue, listed, after}
-use Rattle.listing.proofs.StreamLaws.{next-over, next-block, due-whole}
+use Rattle.listing.specs.Npalist.{Next, nextBlock, blockListed, mostBytes, bytesDue, listed, nextListed, after}
+use Rattle.listing.proofs.StreamLaws.{next-over, next-block, whole-block, after-block, due-whole}
 
 -- a number is in the first of its bytes
 front-number : (n m : ℕ) (b : List ℕ) → n ≤ m → number n (take m b) ≡ number n b
@@ -40,7 +40,6 @@ module _ (block : ℕ) (l s : List ℕ) where
 
   -- as many bytes are due as the length says, where it is within the limit
   due-is : 4 ≤ length s → word32 s 0 ≤ mostBytes block → due ≡ word32 s 0
-  unfolding word32
   due-is h k = due-whole block (take 4 s) (omega (arith, length-take-le 4 s h)) (mostBytes block) (word32 s 0) refl (sym (front-word 4 s (omega arith))) k
 
   -- where more bytes are left than are read
@@ -60,7 +59,7 @@ module _ (block : ℕ) (l s : List ℕ) where
         ∙ sym (next-over (mostBytes block) s (λ e. omega arith) (omega arith) k)
 
     -- where the length is within the limit, the part comes to what the stream comes to
-    whole : word32 s 0 ≤ mostBytes block → listed block l (nextBlock (mostBytes block) (take (4 + due) s)) ≡ listed block l (nextBlock (mostBytes block) s)
+    whole : word32 s 0 ≤ mostBytes block → nextListed block l (take (4 + due) s) ≡ nextListed block l s
     unfolding listed
     whole k =
         let n = word32 s 0 in
@@ -73,23 +72,21 @@ module _ (block : ℕ) (l s : List ℕ) where
         ∙ sym (ap (listed block l) (next-block (mostBytes block) s (λ e. omega arith) (omega arith) k (omega (arith, is))))
 
     -- the part comes to what the stream comes to, whether the length is over the limit or not
-    decide : (t : Bool) → ltb (mostBytes block) (word32 s 0) ≡ t → listed block l (nextBlock (mostBytes block) (take (4 + due) s)) ≡ listed block l (nextBlock (mostBytes block) s)
+    decide : (t : Bool) → ltb (mostBytes block) (word32 s 0) ≡ t → nextListed block l (take (4 + due) s) ≡ nextListed block l s
     decide true e = ap (listed block l) (over (ltb-true (mostBytes block) (word32 s 0) e))
     decide false e = whole (ltb-false (mostBytes block) (word32 s 0) e)
 
   -- so it does whether or not more bytes are left than are read
-  by-length : (t : Bool) → ltb (4 + due) (length s) ≡ t → listed block l (nextBlock (mostBytes block) (take (4 + due) s)) ≡ listed block l (nextBlock (mostBytes block) s)
+  by-length : (t : Bool) → ltb (4 + due) (length s) ≡ t → nextListed block l (take (4 + due) s) ≡ nextListed block l s
   by-length true e = decide (ltb-true (4 + due) (length s) e) (ltb (mostBytes block) (word32 s 0)) refl
-  by-length false e = ap (λ k. listed block l (nextBlock (mostBytes block) k)) (take-all (4 + due) s (ltb-false (4 + due) (length s) e))
+  by-length false e = ap (nextListed block l) (take-all (4 + due) s (ltb-false (4 + due) (length s) e))
 
   -- a length and the bytes due behind it come to what the stream comes to
-  pub enough : listed block l (nextBlock (mostBytes block) (take (4 + due) s)) ≡ listed block l (nextBlock (mostBytes block) s)
+  pub enough : nextListed block l (take (4 + due) s) ≡ nextListed block l s
   enough = by-length (ltb (4 + due) (length s)) refl
 
-  -- and what is left behind a whole block is the rest of the stream
-  pub leaves : 4 ≤ length s → word32 s 0 ≤ mostBytes block → word32 s 0 ≤ length s - 4 → after (nextBlock (mostBytes block) s) ≡ drop (4 + due) s
-  unfolding after
-  leaves h k m =
-      ap after (next-block (mostBytes block) s (λ e. omega arith) h k m)
-      ∙ drop-drop (word32 s 0) 4 s
-      ∙ ap (λ n. drop (4 + n) s) (sym (due-is h k))
+  -- and what is left behind a block is the rest of the stream
+  pub rest-behind : (bytes rest : List ℕ) → nextBlock (mostBytes block) s ≡ Next.block bytes rest → after (nextBlock (mostBytes block) s) ≡ drop (4 + due) s
+  rest-behind bytes rest is =
+      let w = whole-block (mostBytes block) s bytes rest is in
+      after-block (mostBytes block) s bytes rest is ∙ ap (λ n. drop (4 + n) s) (sym (due-is (w .head) (w .within)))

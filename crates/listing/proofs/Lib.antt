@@ -6,3 +6,4 @@ pub mod BlockLaws
 pub mod StreamLaws
 pub mod Enough
 pub mod Budget
+pub mod Claims

@@ -1,4 +1,5 @@
 pub mod Lines
 pub mod Npalist
 pub mod Room
+pub mod Claims
 pub mod Figures

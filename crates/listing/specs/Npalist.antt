@@ -95,6 +95,10 @@ listed number ledger cut = stopped ledger (cutLine number)
 listed number ledger overLong = stopped ledger (refusedLine number (cond (eqb number 0) 1 7))
 listed number ledger (block bytes rest) = blockListed number ledger bytes
 
+-- what the bytes at the front of a stream come to
+abbrev pub nextListed : ℕ → List ℕ → List ℕ → Listed
+nextListed number ledger s = listed number ledger (nextBlock (mostBytes number) s)
+
 -- the stream after what comes next
 unfoldable pub after : Next → List ℕ
 after ended = []

@@ -18,8 +18,9 @@ ghost use Prim.Native.Nat.{_+_, _*_, _≤_};
 ghost use lib.ListN.{length, drop, replicate};
 ghost use Rattle.words.specs.Words.{placedAt};
 ghost use Rattle.reading.specs.Interval.{headerOf, rowsOf};
-ghost use Rattle.listing.specs.Npalist.{rowLines, openingListed, intervalListed, blockListed};
-ghost use Rattle.listing.specs.Room.{refusedRoom, rowRoom, blockRoom};
+ghost use Rattle.settling.specs.Settling.{settling};
+ghost use Rattle.listing.specs.Npalist.{rowLines, resultBuffer, openingListed, intervalListed, blockListed};
+ghost use Rattle.listing.specs.Room.{refusedRoom, rowRoom, blockRoom, blockResult};
 
 // What a block comes to: the end of the bytes to print, and whether the listing goes on.
 pub struct Listed {
@@ -77,6 +78,7 @@ fn list_interval(
 ) -> usize
     requires { ⌜ length (now result) ≡ 64 + 64 * 512 ⌝ }
     requires { ⌜ blockRoom ≤ length (now out) ⌝ }
+    ensures { λ _. ⌜ now (result .exit) ≡ settling (now (ledger .entry)) (now (file .entry)) resultBuffer .result ⌝ }
     ensures { λ _. ⌜ now (ledger .exit) ≡ intervalListed number (now (ledger .entry)) (now (file .entry)) .ledger ⌝ }
     ensures { λ _. ⌜ now (out .exit) ≡ placedAt 0 (intervalListed number (now (ledger .entry)) (now (file .entry)) .printed) (now (out .entry)) ⌝ }
     ensures { λ r. ⌜ r ≡ length (intervalListed number (now (ledger .entry)) (now (file .entry)) .printed) ⌝ }
@@ -121,6 +123,7 @@ pub fn list_block(
     requires { ⌜ length (now ledger) ≡ 64 + 32 * 512 ⌝ }
     requires { ⌜ length (now result) ≡ 64 + 64 * 512 ⌝ }
     requires { ⌜ blockRoom ≤ length (now out) ⌝ }
+    ensures { λ _. ⌜ now (result .exit) ≡ blockResult number (now (ledger .entry)) (now (result .entry)) (now (block .entry)) ⌝ }
     ensures { λ _. ⌜ now (ledger .exit) ≡ blockListed number (now (ledger .entry)) (now (block .entry)) .ledger ⌝ }
     ensures { λ _. ⌜ now (out .exit) ≡ placedAt 0 (blockListed number (now (ledger .entry)) (now (block .entry)) .printed) (now (out .entry)) ⌝ }
     ensures { λ r. ⌜ r .end ≡ length (blockListed number (now (ledger .entry)) (now (block .entry)) .printed) ⌝ }

@@ -6,7 +6,7 @@ use crate::lines::put_cut;
 use crate::lines::put_refused;
 use reading::block::MOST_BYTES as MOST_BLOCK_BYTES;
 use reading::interval::MOST_BYTES as MOST_FILE_BYTES;
-use words::word32;
+use reading::interval::word;
 ghost use mathlib.Core.Path.{_≡_};
 ghost use mathlib.Core.List.{[]};
 ghost use mathlib.Core.Bool.{false, cond};
@@ -15,8 +15,8 @@ ghost use lib.ListN.{length};
 ghost use lib.Dec.{eqb};
 ghost use Rattle.words.specs.Words.{placedAt};
 ghost use Rattle.listing.specs.Lines.{cutLine};
-ghost use Rattle.listing.specs.Npalist.{mostBytes, bytesDue, nextBlock, listed};
-ghost use Rattle.listing.specs.Room.{cutRoom, blockRoom};
+ghost use Rattle.listing.specs.Npalist.{mostBytes, bytesDue, nextListed};
+ghost use Rattle.listing.specs.Room.{cutRoom, blockRoom, nextResult};
 
 pub const LENGTH_BYTES: usize = 4;
 
@@ -39,7 +39,7 @@ pub fn bytes_due(number: u64, head: &[u8]) -> usize
     if head.len() < LENGTH_BYTES {
         return 0;
     }
-    let n = word32(head, 0) as usize;
+    let n = word(head, 0) as usize;
     if most_bytes(number) < n {
         return 0;
     }
@@ -88,10 +88,11 @@ pub fn list_next(
     requires { ⌜ length (now ledger) ≡ 64 + 32 * 512 ⌝ }
     requires { ⌜ length (now result) ≡ 64 + 64 * 512 ⌝ }
     requires { ⌜ blockRoom ≤ length (now out) ⌝ }
-    ensures { λ _. ⌜ now (ledger .exit) ≡ listed number (now (ledger .entry)) (nextBlock (mostBytes number) (now (s .entry))) .ledger ⌝ }
-    ensures { λ _. ⌜ now (out .exit) ≡ placedAt 0 (listed number (now (ledger .entry)) (nextBlock (mostBytes number) (now (s .entry))) .printed) (now (out .entry)) ⌝ }
-    ensures { λ r. ⌜ r .end ≡ length (listed number (now (ledger .entry)) (nextBlock (mostBytes number) (now (s .entry))) .printed) ⌝ }
-    ensures { λ r. ⌜ r .on ≡ listed number (now (ledger .entry)) (nextBlock (mostBytes number) (now (s .entry))) .on ⌝ }
+    ensures { λ _. ⌜ now (result .exit) ≡ nextResult number (now (ledger .entry)) (now (result .entry)) (now (s .entry)) ⌝ }
+    ensures { λ _. ⌜ now (ledger .exit) ≡ nextListed number (now (ledger .entry)) (now (s .entry)) .ledger ⌝ }
+    ensures { λ _. ⌜ now (out .exit) ≡ placedAt 0 (nextListed number (now (ledger .entry)) (now (s .entry)) .printed) (now (out .entry)) ⌝ }
+    ensures { λ r. ⌜ r .end ≡ length (nextListed number (now (ledger .entry)) (now (s .entry)) .printed) ⌝ }
+    ensures { λ r. ⌜ r .on ≡ nextListed number (now (ledger .entry)) (now (s .entry)) .on ⌝ }
     ensures { λ r. ⌜ r .end ≤ blockRoom ⌝ }
 {
     let came = s.len();
@@ -101,7 +102,7 @@ pub fn list_next(
     if came < LENGTH_BYTES {
         return stop(put_cut(out, 0, number));
     }
-    let n = word32(s, 0) as usize;
+    let n = word(s, 0) as usize;
     if most_bytes(number) < n {
         return stop(put_refused(out, 0, number, over_long(number)));
     }

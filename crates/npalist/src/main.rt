@@ -10,7 +10,7 @@ ghost use mathlib.Core.Path.{_≡_};
 ghost use Prim.Native.Nat.{_+_, _*_, _≤_};
 ghost use lib.ListN.{length, take};
 ghost use Rattle.words.specs.Words.{placedAt};
-ghost use Rattle.listing.specs.Npalist.{mostBytes, bytesDue, nextBlock, listed};
+ghost use Rattle.listing.specs.Npalist.{bytesDue, nextListed};
 ghost use Rattle.listing.specs.Room.{blockRoom};
 
 // A loop that is proved has to end, and nothing says that standard input does: no stream has so many blocks.
@@ -65,13 +65,13 @@ fn next_step(
     requires { ⌜ length (now ledger) ≡ 64 + 32 * 512 ⌝ }
     requires { ⌜ length (now result) ≡ 64 + 64 * 512 ⌝ }
     requires { ⌜ blockRoom ≤ length (now out) ⌝ }
-    ensures { λ r. ⌜ now (ledger .exit) ≡ listed number (now (ledger .entry)) (nextBlock (mostBytes number) (take (r .came .head + r .came .block) (now (stream .exit)))) .ledger ⌝ }
-    ensures { λ r. ⌜ now (out .exit) ≡ placedAt 0 (listed number (now (ledger .entry)) (nextBlock (mostBytes number) (take (r .came .head + r .came .block) (now (stream .exit)))) .printed) (now (out .entry)) ⌝ }
-    ensures { λ r. ⌜ r .end ≡ length (listed number (now (ledger .entry)) (nextBlock (mostBytes number) (take (r .came .head + r .came .block) (now (stream .exit)))) .printed) ⌝ }
-    ensures { λ r. ⌜ r .on ≡ listed number (now (ledger .entry)) (nextBlock (mostBytes number) (take (r .came .head + r .came .block) (now (stream .exit)))) .on ⌝ }
+    ensures { λ r. ⌜ now (ledger .exit) ≡ nextListed number (now (ledger .entry)) (take (r .came .head + r .came .block) (now (stream .exit))) .ledger ⌝ }
+    ensures { λ r. ⌜ now (out .exit) ≡ placedAt 0 (nextListed number (now (ledger .entry)) (take (r .came .head + r .came .block) (now (stream .exit))) .printed) (now (out .entry)) ⌝ }
+    ensures { λ r. ⌜ r .end ≡ length (nextListed number (now (ledger .entry)) (take (r .came .head + r .came .block) (now (stream .exit))) .printed) ⌝ }
+    ensures { λ r. ⌜ r .on ≡ nextListed number (now (ledger .entry)) (take (r .came .head + r .came .block) (now (stream .exit))) .on ⌝ }
+    ensures { λ r. ⌜ r .end ≤ blockRoom ⌝ }
     ensures { λ r. ⌜ r .came .head ≤ 4 ⌝ }
     ensures { λ r. ⌜ r .came .block ≤ bytesDue number (take (r .came .head) (now (stream .exit))) ⌝ }
-    ensures { λ r. ⌜ r .end ≤ blockRoom ⌝ }
 {
     let came = read_next(number, stream);
     let end = came.head + came.block;

@@ -1,10 +1,11 @@
 -- `listing::blocks::clear` meets its contract. The bytes before i are zeros, and those from i on are as they came.
 use Prim.Native.Nat.{_-_, _≤_}
-use mathlib.Core.Path.{_≡_, refl, _∙_}
+use mathlib.Core.Path.{_≡_, refl, ap, _∙_}
 use mathlib.Core.List.{_++_}
-use lib.ListN.{length, drop, replicate, length-set}
-use Rattle.listing.proofs.BlockLaws.{clear-turn, clear-end}
+use lib.ListN.{length, drop, replicate, set, length-set}
+use Rattle.listing.proofs.BlockLaws.{clear-end}
 use native.Mathlib.Omega.{arith}
+use borrow.Author.Fill.{fill-more}
 use borrow.Author.Needs.{needs}
 use Rattle.listing.proofs.blocks.clear.Statement.{statement}
 use Rattle.listing.proofs.blocks.clear.Tie as tie
@@ -30,7 +31,7 @@ loop-less c = search needs
 loop-again : tie.Need-loop-again Inv-loop μ-loop
 loop-again c =
     let l = c .before in
-    (omega arith, length-set (l .loop .buffer) (l .loop .i) _ ∙ l .loop .inv .1, clear-turn _ _ _ (omega arith) (l .loop .inv .2))
+    (omega arith, length-set (l .loop .buffer) (l .loop .i) _ ∙ l .loop .inv .1, ap (λ b. set b (l .loop .i) 0) (l .loop .inv .2) ∙ fill-more (l .loop .i) 0 (l .before .args .buffer .now) (omega arith))
 
 same-length : tie.Need-same-length Inv-loop μ-loop
 same-length c = search needs

@@ -1,7 +1,7 @@
 -- `listing::blocks::list_interval` meets its contract. The result is all zeros before the call, and what settling answers chooses the lines.
 use mathlib.Core.Path.{sym, _∙_}
 use Rattle.reading.specs.Interval.{headerOf}
-use Rattle.listing.proofs.BlockLaws.{Settled, settled, result-cleared, interval-refused, interval-settled}
+use Rattle.listing.proofs.BlockLaws.{Settled, settled, result-cleared, result-left, interval-refused, interval-settled}
 use native.Mathlib.Omega.{arith}
 use borrow.Author.Needs.{needs}
 use Rattle.listing.proofs.blocks.list_interval.Statement.{statement}
@@ -42,8 +42,11 @@ returns c =
     let settle = then .before .before .before .before .before in
     let zero = settle .before .before .before .before .before in
     let start = zero .before .before .before .before .before .before in
-    interval-refused _ _ _ _ _ _ (zero .clear .ensures ∙ result-cleared (start .args .result .now) (start .pre .0)) (settle .settle-file .ensures .0) (settle .settle-file .ensures .1 .0) _ _ _ (then .if1 .taken)
-    (put .put-refused .ensures .0) (put .put-refused .ensures .1 .0) (put .put-refused .ensures .1 .1)
+    let zeros = zero .clear .ensures ∙ result-cleared (start .args .result .now) (start .pre .0) in (
+      result-left _ _ _ _ zeros (settle .settle-file .ensures .1 .1),
+      interval-refused _ _ _ _ _ _ zeros (settle .settle-file .ensures .0) (settle .settle-file .ensures .1 .0) _ _ _ (then .if1 .taken)
+          (put .put-refused .ensures .0) (put .put-refused .ensures .1 .0) (put .put-refused .ensures .1 .1),
+    )
 
 put-row-lines-requires : tie.Need-put-row-lines-requires
 put-row-lines-requires c κs =
@@ -78,10 +81,13 @@ returns-2 c =
     let settle = else .before .before .before .before .before in
     let zero = settle .before .before .before .before .before in
     let start = zero .before .before .before .before .before .before in
-    interval-settled _ _ _ _ _ _ (zero .clear .ensures ∙ result-cleared (start .args .result .now) (start .pre .0)) (settle .settle-file .ensures .0) (settle .settle-file .ensures .1 .0) _ _ _ _ _ _ _ (else .if1 .left)
-    (settle .settle-file .ensures .1 .1) (pool .before .before .word .ensures .0) (omega arith) (omega (arith, accepted else .tables .rows)) (omega arith)
-    (rows .put-row-lines .ensures .0) (rows .put-row-lines .ensures .1 .0)
-    (pool .put-pool-line .ensures .0) (pool .put-pool-line .ensures .1 .0)
+    let zeros = zero .clear .ensures ∙ result-cleared (start .args .result .now) (start .pre .0) in (
+      result-left _ _ _ _ zeros (settle .settle-file .ensures .1 .1),
+      interval-settled _ _ _ _ _ _ zeros (settle .settle-file .ensures .0) (settle .settle-file .ensures .1 .0) _ _ _ _ _ _ _ (else .if1 .left)
+          (settle .settle-file .ensures .1 .1) (pool .before .before .word .ensures .0) (omega arith) (omega (arith, accepted else .tables .rows)) (omega arith)
+          (rows .put-row-lines .ensures .0) (rows .put-row-lines .ensures .1 .0)
+          (pool .put-pool-line .ensures .0) (pool .put-pool-line .ensures .1 .0),
+    )
 
 pub list-interval-spec : {M : Type 1} → statement M
 list-interval-spec =

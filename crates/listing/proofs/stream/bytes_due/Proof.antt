@@ -9,8 +9,8 @@ use Rattle.listing.proofs.stream.bytes_due.Tie as tie
 returns : tie.Need-returns
 returns c = (sym (due-cut _ _ (omega arith)), omega arith)
 
-word32-requires : tie.Need-word32-requires
-word32-requires c κs = search needs
+word-requires : tie.Need-word-requires
+word-requires c κs = search needs
 
 most-bytes-requires : tie.Need-most-bytes-requires
 most-bytes-requires c κs = search needs
@@ -18,13 +18,13 @@ most-bytes-requires c κs = search needs
 returns-2 : tie.Need-returns-2
 returns-2 c =
     let most = c .before in
-    (sym (due-over _ _ (omega arith) _ _ (most .most-bytes .ensures .0) (most .before .word32 .ensures .0) (omega arith)), omega arith)
+    (sym (due-over _ _ (omega arith) _ _ (most .most-bytes .ensures .0) (most .before .word .ensures .0) (omega arith)), omega arith)
 
 returns-3 : tie.Need-returns-3
 returns-3 c =
     let most = c .before in
-    (sym (due-whole _ _ (omega arith) _ _ (most .most-bytes .ensures .0) (most .before .word32 .ensures .0) (omega arith)), omega arith)
+    (sym (due-whole _ _ (omega arith) _ _ (most .most-bytes .ensures .0) (most .before .word .ensures .0) (omega arith)), omega arith)
 
 pub bytes-due-spec : {M : Type 1} → statement M
 bytes-due-spec =
-    tie.close (tie.spec returns word32-requires most-bytes-requires returns-2 returns-3)
+    tie.close (tie.spec returns word-requires most-bytes-requires returns-2 returns-3)

@@ -4,7 +4,6 @@ use native.Mathlib.Nat.{zero-add}
 use Rattle.listing.proofs.StreamLaws.{stops, come-to, listed-ended, listed-cut, listed-over, listed-short, listed-block}
 use native.Mathlib.Omega.{arith}
 use borrow.Author.Needs.{needs}
-use borrow.Author.Needs.{needs}
 use Rattle.listing.proofs.stream.list_next.Statement.{statement}
 use Rattle.listing.proofs.stream.list_next.Tie as tie
 
@@ -21,7 +20,7 @@ returns : tie.Need-returns
 returns c =
     let put = c .before .before .before in
     let then = put .before .before in
-    stops _ _ _ _ _ _ _ _ (listed-ended _ _ _ (then .if1 .taken)) (put .put-end .ensures .0) (put .put-end .ensures .1 .0 ∙ sym (zero-add _)) (c .stop .ensures .0) (c .stop .ensures .1) (omega arith)
+    stops _ _ _ _ _ _ _ _ _ _ (listed-ended _ _ _ _ (then .if1 .taken)) (put .put-end .ensures .0) (put .put-end .ensures .1 .0 ∙ sym (zero-add _)) (c .stop .ensures .0) (c .stop .ensures .1) (omega arith)
 
 put-cut-requires : tie.Need-put-cut-requires
 put-cut-requires c κs = search needs
@@ -36,10 +35,10 @@ returns-2 : tie.Need-returns-2
 returns-2 c =
     let put = c .before .before .before in
     let then = put .before .before in
-    stops _ _ _ _ _ _ _ _ (listed-cut _ _ _ (then .before .if1 .left) (omega arith)) (put .put-cut .ensures .0) (put .put-cut .ensures .1 .0) (c .stop2 .ensures .0) (c .stop2 .ensures .1) (omega arith)
+    stops _ _ _ _ _ _ _ _ _ _ (listed-cut _ _ _ _ (then .before .if1 .left) (omega arith)) (put .put-cut .ensures .0) (put .put-cut .ensures .1 .0) (c .stop2 .ensures .0) (c .stop2 .ensures .1) (omega arith)
 
-word32-requires : tie.Need-word32-requires
-word32-requires c κs = search needs
+word-requires : tie.Need-word-requires
+word-requires c κs = search needs
 
 most-bytes-requires : tie.Need-most-bytes-requires
 most-bytes-requires c κs = search needs
@@ -62,7 +61,7 @@ returns-3 c =
     let ground = put .before in
     let most = ground .before .before .before in
     let n = most .before in
-    stops _ _ _ _ _ _ _ _ (listed-over _ _ _ (n .before .before .if1 .left) (omega arith) _ _ (most .most-bytes .ensures .0) (n .word32 .ensures .0) _ (ground .over-long .ensures) (omega arith))
+    stops _ _ _ _ _ _ _ _ _ _ (listed-over _ _ _ _ (n .before .before .if1 .left) (omega arith) _ _ (most .most-bytes .ensures .0) (n .word .ensures .0) _ (ground .over-long .ensures) (omega arith))
     (put .put-refused .ensures .0) (put .put-refused .ensures .1 .0) (c .stop3 .ensures .0) (c .stop3 .ensures .1) (omega arith)
 
 put-cut-requires-2 : tie.Need-put-cut-requires-2
@@ -79,7 +78,7 @@ returns-4 c =
     let put = c .before .before .before in
     let most = put .before .before .before .before in
     let n = most .before in
-    stops _ _ _ _ _ _ _ _ (listed-short _ _ _ (n .before .before .if1 .left) (omega arith) _ _ (most .most-bytes .ensures .0) (n .word32 .ensures .0) (omega arith) (omega arith))
+    stops _ _ _ _ _ _ _ _ _ _ (listed-short _ _ _ _ (n .before .before .if1 .left) (omega arith) _ _ (most .most-bytes .ensures .0) (n .word .ensures .0) (omega arith) (omega arith))
     (put .put-cut2 .ensures .0) (put .put-cut2 .ensures .1 .0) (c .stop4 .ensures .0) (c .stop4 .ensures .1) (omega arith)
 
 add-list-block : tie.Need-add-list-block
@@ -111,8 +110,8 @@ returns-5 c =
     let b = c .before .before .before .before .before .before in
     let most = b .before .before .before .before .before .before .before in
     let n = most .before in
-    come-to _ _ _ _ _ _ _ (listed-block _ _ _ (n .before .before .if1 .left) (omega arith) _ _ (most .most-bytes .ensures .0) (n .word32 .ensures .0) (omega arith) (omega arith))
-    (b .list-block .ensures .0) (b .list-block .ensures .1 .0) (b .list-block .ensures .1 .1 .0) (b .list-block .ensures .1 .1 .1 .0) (omega arith)
+    come-to _ _ _ _ _ _ _ _ _ _ (listed-block _ _ _ _ (n .before .before .if1 .left) (omega arith) _ _ (most .most-bytes .ensures .0) (n .word .ensures .0) (omega arith) (omega arith))
+    (b .list-block .ensures .0) (b .list-block .ensures .1 .0) (b .list-block .ensures .1 .1 .0) (b .list-block .ensures .1 .1 .1 .0) (b .list-block .ensures .1 .1 .1 .1 .0) (omega arith)
 
 pub list-next-spec : {M : Type 1} → statement M
 list-next-spec =
@@ -126,7 +125,7 @@ list-next-spec =
     stop-requires-2
     same-length-2
     returns-2
-    word32-requires
+    word-requires
     most-bytes-requires
     over-long-requires
     put-refused-requires
