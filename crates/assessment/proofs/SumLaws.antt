@@ -2,15 +2,15 @@
 use Prim.Native.Nat.{ℕ, _+_, _-_, _*_, _≤_, _<_}
 use mathlib.Core.Path.{_≡_, refl, ap, _∙_}
 use mathlib.Core.List.{List, []}
-use mathlib.Core.Bool.{Bool, false}
+use mathlib.Core.Bool.{false}
 use native.Mathlib.Omega.{arith}
 use lib.ListN.{length, take, drop, length-drop}
 use borrow.Rule.Slice.PartAt.{part-to-end}
 use Rattle.words.specs.Words.{word32}
-use Rattle.reading.specs.Interval.{rowBytes, Row, kindOf, headerOf, rowAt, rowOf, pointsOutside}
+use Rattle.reading.specs.Interval.{rowBytes, Row, kindOf, headerOf, rowAt, rowOf}
 use Rattle.assessment.specs.Assessment.{denominatorShareAs, denominatorShare}
 use Rattle.assessment.proofs.KindLaws.{each-kind}
-use Rattle.reading.proofs.Walk.{part-at, rowPart, points-within}
+use Rattle.reading.proofs.Walk.{part-at, rowPart, fails, points-within}
 
 -- what a row adds to the denominator does not depend on its points
 denominator-without-points : (b p q : List ℕ) → denominatorShare (rowAt b p) ≡ denominatorShare (rowAt b q)
@@ -26,12 +26,8 @@ module _ (f : List ℕ) where
   pub part-length : (at : ℕ) → length (partFrom at) ≡ length f - at
   part-length at = ap length (part-to-end f at) ∙ length-drop at f
 
-  -- a row that ground 14 refuses
-  abbrev pub fails : Row → Bool
-  fails = pointsOutside (headerOf f .pointCount)
-
   -- where the table of points ends within the file, so do the points of such a row
-  pub curve-within : (i at : ℕ) → at ≡ headerOf f .rowsOffset + rowBytes * i → fails (rowOf f (rowPart f i)) ≡ false
+  pub curve-within : (i at : ℕ) → at ≡ headerOf f .rowsOffset + rowBytes * i → fails f (rowOf f (rowPart f i)) ≡ false
       → headerOf f .pointsOffset + 8 * headerOf f .pointCount ≤ length f → 0 < word32 (partFrom at) 13
       → headerOf f .pointsOffset + 8 * (word32 (partFrom at) 12 + word32 (partFrom at) 13) ≤ length f
   curve-within i at place e table =

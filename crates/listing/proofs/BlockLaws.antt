@@ -1,6 +1,6 @@
 -- The laws of blocks: a buffer filled with zeros, the lines of a file's rows, and what is printed for an accepted and a refused file.
 use Prim.Native.Nat.{ℕ, _+_, _*_, _≤_, _<_}
-use mathlib.Core.Path.{_≡_, refl, sym, ap, ap₂, _∙_}
+use mathlib.Core.Path.{_≡_, sym, ap, ap₂, _∙_}
 use mathlib.Core.List.{List, [], _∷_, _++_, append-nil}
 use mathlib.Core.Bool.{true, false}
 use native.Mathlib.Omega.{arith}
@@ -9,16 +9,11 @@ use lib.Seq.{drop-drop}
 use lib.Dec.{eqb}
 use borrow.Author.Tests.{eq-eqb, ne-eqb}
 use Rattle.words.specs.Words.{wordsIn, placedAt}
-use Rattle.words.specs.Lists.{any}
-use Rattle.words.proofs.Tests.{facts}
-use Rattle.words.proofs.Grounds.{none-applies}
-use Rattle.reading.specs.Interval.{headerBytes, mostRows, headerOf, rowOf, rowsOf, notAFile, tablesMisplaced}
-use Rattle.reading.proofs.Bounds.{file-has-header, TablesIn, tables-in}
+use Rattle.reading.specs.Interval.{mostRows, headerOf, rowOf, rowsOf}
 use Rattle.reading.proofs.Walk.{rowPart, rowsLeft, rows-start, rows-turn, rows-end}
 use Rattle.ledger.specs.Ledger.{ledgerBytes}
 use Rattle.ledger.specs.Opening.{opening}
-use Rattle.settling.specs.Settling.{resultHeaderBytes, resultRowBytes, resultTooShort, settlingGrounds, SettlingAnswer, settling}
-use Rattle.settling.proofs.Accepted.{settling-none}
+use Rattle.settling.specs.Settling.{SettlingAnswer, settling}
 use Rattle.listing.specs.Lines.{line, refusedLine}
 use Rattle.listing.specs.Npalist.{rowLines, poolLine, intervalLines, ledgerBuffer, resultBuffer, openingListed, intervalListed}
 use Rattle.listing.specs.Room.{refusedRoom, rowRoom, poolRoom, blockRoom}
@@ -78,21 +73,6 @@ module _ (f b : List ℕ) (interval : ℕ) where
         place-end at (linesLeft i) out goal none left,
         omega (arith, ap length none),
       )
-
--- what is known of a file that settling accepts
-pub record Settled (f r : List ℕ) : Type 0 where
-  pub header : headerBytes ≤ length f
-  pub tables : TablesIn f
-  pub room : resultHeaderBytes + resultRowBytes * headerOf f .rowCount ≤ length r
-
--- a file that settling accepts has its header and tables, and the result has room for its rows
-pub settled : (l f r : List ℕ) → settling l f r .ground ≡ 0 → Settled f r
-unfolding settlingGrounds any resultTooShort
-settled l f r e =
-    let none = none-applies (settlingGrounds l f r) refl (settling-none l f r e) in
-    let g7 : notAFile f ≡ false = search facts depth 14 in
-    let g11 : tablesMisplaced f ≡ false = search facts depth 14 in
-    record { header = file-has-header f g7; tables = tables-in f g11; room = search facts depth 14 }
 
 -- a result buffer for 512 rows, filled with zeros, is the one that the listing settles with
 pub result-cleared : (r : List ℕ) → length r ≡ 64 + 64 * 512 → replicate (length r) 0 ≡ resultBuffer

@@ -10,12 +10,8 @@ use lib.Seq.{drop-cons}
 use lib.Dec.{ltb, eqb}
 use borrow.Author.Tests.{lt-ltb, le-ltb, eq-eqb, ne-eqb, ltb-true, ltb-false}
 use Rattle.words.specs.Lists.{any, risesAbove, rises}
-use Rattle.words.proofs.Lists.{none-pass, member-above}
+use Rattle.words.proofs.Lists.{not-among}
 use Rattle.reading.specs.Block.{idsOutOfOrder}
-
--- numbers that rise from above one on are not 0
-no-zero : (last : ℕ) (xs : List ℕ) → risesAbove last xs ≡ true → any (λ x. eqb x 0) xs ≡ false
-no-zero last xs e = none-pass (λ x. eqb x 0) xs (λ x m. ne-eqb x 0 (λ q. omega (arith, member-above last m e)))
 
 -- ids are out of order just where they do not rise from above 0 on
 pub order-is : (is : List ℕ) → idsOutOfOrder is ≡ not (risesAbove 0 is)
@@ -24,7 +20,7 @@ order-is [] = refl
 order-is (x ∷ xs) = by (ltb 0 x) refl (risesAbove x xs) refl
   where
     by : (t : Bool) → ltb 0 x ≡ t → (u : Bool) → risesAbove x xs ≡ u → ((eqb x 0 || any (λ x. eqb x 0) xs) || not u) ≡ not (t && u)
-    by true p true q = rw (ne-eqb x 0 (λ z. omega (arith, ltb-true 0 x p)), no-zero x xs q)
+    by true p true q = rw (ne-eqb x 0 (λ z. omega (arith, ltb-true 0 x p)), not-among x 0 xs q (omega arith))
     by true p false q = or-true (eqb x 0 || any (λ x. eqb x 0) xs)
     by false p true q = let zero-id : x ≡ 0 = omega (arith, ltb-false 0 x p) in rw (eq-eqb x 0 zero-id)
     by false p false q = or-true (eqb x 0 || any (λ x. eqb x 0) xs)

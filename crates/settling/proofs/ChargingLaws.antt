@@ -16,9 +16,9 @@ use Rattle.words.proofs.Lists.{none-start, none-turn}
 use Rattle.reading.specs.Block.{Terms}
 use Rattle.reading.specs.Interval.{rowBytes, Row, headerOf, rowAt, rowOf, rowsOf, rowOutside}
 use Rattle.reading.proofs.Bounds.{terms-in, RowIn, row-in}
-use Rattle.reading.proofs.Walk.{rowPart, row-part, rowsLeft, rows-start, rows-turn, rows-end}
+use Rattle.reading.proofs.Walk.{fails, rowPart, row-part, rowsLeft, rows-start, rows-turn, rows-end}
 use Rattle.assessment.specs.Assessment.{Ratio, ratioOf, shortfall, expected, RowFigures, rowFigures, Account, raised, charge, ChargedRow, chargedRow, assessed}
-use Rattle.assessment.proofs.SumLaws.{partFrom, part-length, curve-within, fails}
+use Rattle.assessment.proofs.SumLaws.{partFrom, part-length, curve-within}
 use Rattle.assessment.proofs.Promises.{figures-in}
 use Rattle.assessment.proofs.ChargeLaws.{charge-reads, charge-considered}
 use Rattle.ledger.specs.Ledger.{ledgerBytes, accountAt, accountCount, ledgerOf, accountOutside}

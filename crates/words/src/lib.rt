@@ -92,7 +92,7 @@ pub fn put32(b: &mut [u8], at: usize, v: u64)
 }
 
 // Writes one 64-bit word at a byte offset.
-pub fn put64(b: &mut [u8], at: usize, v: u64)
+fn put64(b: &mut [u8], at: usize, v: u64)
     requires { ⌜ at + 8 ≤ length (now b) ⌝ }
     ensures { λ _. ⌜ now (b .exit) ≡ writtenAt at (v ∷ []) (now (b .entry)) ⌝ }
 {

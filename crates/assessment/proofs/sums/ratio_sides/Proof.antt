@@ -7,9 +7,9 @@ use borrow.Author.Needs.{needs}
 use Rattle.words.specs.Lists.{sum, any}
 use Rattle.words.proofs.Lists.{sum-start, sum-turn, sum-end, none-start, none-turn}
 use Rattle.reading.specs.Interval.{headerOf, rowsOf}
-use Rattle.reading.proofs.Walk.{rowsLeft, rows-start, rows-turn, rows-end}
+use Rattle.reading.proofs.Walk.{fails, rowsLeft, rows-start, rows-turn, rows-end}
 use Rattle.assessment.specs.Assessment.{numeratorShare, numerator, denominatorShare, denominator}
-use Rattle.assessment.proofs.SumLaws.{part-length, curve-within, denominator-in-parts, fails, row-in-parts}
+use Rattle.assessment.proofs.SumLaws.{part-length, curve-within, denominator-in-parts, row-in-parts}
 use Rattle.assessment.proofs.sums.ratio_sides.Statement.{statement}
 use Rattle.assessment.proofs.sums.ratio_sides.Tie as tie
 

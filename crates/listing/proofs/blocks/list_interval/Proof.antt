@@ -1,18 +1,20 @@
 -- `listing::blocks::list_interval` meets its contract. The result is all zeros before the call, and what settling answers chooses the lines.
 use mathlib.Core.Path.{sym, _∙_}
 use Rattle.reading.specs.Interval.{headerOf}
-use Rattle.listing.proofs.BlockLaws.{Settled, settled, result-cleared, result-left, interval-refused, interval-settled}
+use Rattle.settling.proofs.Accepted.{Accepted, accepted}
+use Rattle.listing.proofs.BlockLaws.{result-cleared, result-left, interval-refused, interval-settled}
 use native.Mathlib.Omega.{arith}
 use borrow.Author.Needs.{needs}
 use Rattle.listing.proofs.blocks.list_interval.Statement.{statement}
 use Rattle.listing.proofs.blocks.list_interval.Tie as tie
 
--- where no ground is answered, what is known of the file and of the result
-accepted : (c : tie.Else1) → let settle = c .before .before .before .before .before in let zero = settle .before .before .before .before .before in
-    Settled (zero .before .before .before .before .before .before .args .file .now) (zero .clear .last .0)
-accepted c =
+-- where no ground is answered, what settling accepted
+taken : (c : tie.Else1) → let settle = c .before .before .before .before .before in let zero = settle .before .before .before .before .before in
+    let start = zero .before .before .before .before .before .before in
+    Accepted (start .args .ledger .now) (start .args .file .now) (zero .clear .last .0)
+taken c =
     let settle = c .before .before .before .before .before in
-    settled _ _ _ (sym (settle .settle-file .ensures .0) ∙ c .if1 .left)
+    accepted _ _ _ (sym (settle .settle-file .ensures .0) ∙ c .if1 .left)
 
 clear-requires : tie.Need-clear-requires
 clear-requires c κs = search needs
@@ -50,18 +52,18 @@ returns c =
 
 put-row-lines-requires : tie.Need-put-row-lines-requires
 put-row-lines-requires c κs =
-    let s = accepted (c .before .before) in
-    (s .header, (s .tables .rows-lie, (omega (arith, s .room), omega (arith, s .tables .rows))))
+    let s = taken (c .before .before) in
+    (s .passed .header, (s .passed .rows-lie, (omega (arith, s .room), omega (arith, s .passed .rows-few))))
 
 word-requires : tie.Need-word-requires
 word-requires c κs =
-    let s = accepted (c .before .before .before .before .before .before) in
-    omega (arith, s .header)
+    let s = taken (c .before .before .before .before .before .before) in
+    omega (arith, s .passed .header)
 
 put-pool-line-requires : tie.Need-put-pool-line-requires
 put-pool-line-requires c κs =
-    let s = accepted (c .before .before .before .before .before .before .before .before) in
-    (omega (arith, s .room), omega (arith, s .tables .rows))
+    let s = taken (c .before .before .before .before .before .before .before .before) in
+    (omega (arith, s .room), omega (arith, s .passed .rows-few))
 
 same-length-4 : tie.Need-same-length-4
 same-length-4 c = search needs
@@ -84,7 +86,7 @@ returns-2 c =
     let zeros = zero .clear .ensures ∙ result-cleared (start .args .result .now) (start .pre .0) in (
       result-left _ _ _ _ zeros (settle .settle-file .ensures .1 .1),
       interval-settled _ _ _ _ _ _ zeros (settle .settle-file .ensures .0) (settle .settle-file .ensures .1 .0) _ _ _ _ _ _ _ (else .if1 .left)
-          (settle .settle-file .ensures .1 .1) (pool .before .before .word .ensures .0) (omega arith) (omega (arith, accepted else .tables .rows)) (omega arith)
+          (settle .settle-file .ensures .1 .1) (pool .before .before .word .ensures .0) (omega arith) (omega (arith, taken else .passed .rows-few)) (omega arith)
           (rows .put-row-lines .ensures .0) (rows .put-row-lines .ensures .1 .0)
           (pool .put-pool-line .ensures .0) (pool .put-pool-line .ensures .1 .0),
     )
