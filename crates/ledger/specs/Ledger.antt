@@ -90,7 +90,7 @@ accountOutside t a = ltb mostKilowatts (a .largest) || ltb (limit t (a .largest)
 unfoldable pub doesNotClose : Ledger → Bool
 doesNotClose l = not (eqb (sum (λ a. a .charged) (l .accounts)) (sum (λ a. a .credited) (l .accounts) + l .carried))
 
--- ground 6: the length, words 0, 6 and 7, terms, number of ids and ids as grounds 2 to 4 have them, the accounts' bytes, word 3, carried, accounts, sums
+-- ground 6: the length, words 0, 6 and 7, terms, number of ids and ids (of 64 bits) as grounds 2 to 4 have them, the accounts' bytes, word 3, carried, accounts, sums
 unfoldable pub notALedger : List ℕ → Bool
 notALedger b =
     let l = ledgerOf b in

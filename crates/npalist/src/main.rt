@@ -11,7 +11,7 @@ ghost use Prim.Native.Nat.{_+_, _*_, _≤_};
 ghost use lib.ListN.{length, take};
 ghost use Rattle.words.specs.Words.{placedAt};
 ghost use Rattle.listing.specs.Npalist.{bytesDue, nextListed};
-ghost use Rattle.listing.specs.Room.{blockRoom};
+ghost use Rattle.listing.specs.Room.{blockRoom, nextResult};
 
 // A loop that is proved has to end, and nothing says that standard input does: no stream has so many blocks.
 const MOST_BLOCKS: u64 = 1099511627776;
@@ -65,6 +65,7 @@ fn next_step(
     requires { ⌜ length (now ledger) ≡ 64 + 32 * 512 ⌝ }
     requires { ⌜ length (now result) ≡ 64 + 64 * 512 ⌝ }
     requires { ⌜ blockRoom ≤ length (now out) ⌝ }
+    ensures { λ r. ⌜ now (result .exit) ≡ nextResult number (now (ledger .entry)) (now (result .entry)) (take (r .came .head + r .came .block) (now (stream .exit))) ⌝ }
     ensures { λ r. ⌜ now (ledger .exit) ≡ nextListed number (now (ledger .entry)) (take (r .came .head + r .came .block) (now (stream .exit))) .ledger ⌝ }
     ensures { λ r. ⌜ now (out .exit) ≡ placedAt 0 (nextListed number (now (ledger .entry)) (take (r .came .head + r .came .block) (now (stream .exit))) .printed) (now (out .entry)) ⌝ }
     ensures { λ r. ⌜ r .end ≡ length (nextListed number (now (ledger .entry)) (take (r .came .head + r .came .block) (now (stream .exit))) .printed) ⌝ }

@@ -50,15 +50,14 @@ meets-row f i id r e taken =
     let both = sym e ∙ taken in
     (ltb-true i (headerOf f .rowCount) (first-holds there own both), second-holds there own both)
 
--- raising reads an account's largest commitment alone
-pub raised-written : (b x part : List ℕ) (at id largest charged credited cents share kw : ℕ)
+-- the words of a posted account: raising reads its largest commitment alone, and its sums have the row's charge and credit added
+pub posted-written : (b x part : List ℕ) (at id largest charged credited cents share kw more given : ℕ)
     → kw ≡ raised (rowAt part []) (record { id = 0; largest = largest; charged = 0; credited = 0 }) .largest
-    → x ≡ writtenAt at (id ∷ kw ∷ (charged + cents) ∷ (credited + share) ∷ []) b
+    → more ≡ charged + cents → given ≡ credited + share → x ≡ writtenAt at (id ∷ kw ∷ more ∷ given ∷ []) b
     → let a : Account = record { id = id; largest = largest; charged = charged; credited = credited } in
     x ≡ writtenAt at (id ∷ raised (rowAt part []) a .largest ∷ (charged + cents) ∷ (credited + share) ∷ []) b
 unfolding raised
-raised-written b x part at id largest charged credited cents share kw raise put =
-    put ∙ ap (λ kw. writtenAt at (id ∷ kw ∷ (charged + cents) ∷ (credited + share) ∷ []) b) raise
+posted-written b x part at id largest charged credited cents share kw more given raise charge credit put = rw (← raise, ← charge, ← credit) put
 
 -- where no member passes a test, the one at i does not
 none-at : {A : Type 0} (p : A → Bool) (xs : List A) (i : ℕ) (d : A) → i < length xs → any p xs ≡ false → p (getD xs i d) ≡ false

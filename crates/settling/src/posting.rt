@@ -59,8 +59,8 @@ fn post_row(ledger: &mut [u8], at: usize, a: Account, row: &[u8], charge: Cents,
         at,
         a.id,
         raised(row, a.largest),
-        Cents(a.charged.0 + charge.0),
-        Cents(a.credited.0 + credit.0),
+        a.charged.plus(charge),
+        a.credited.plus(credit),
     );
 }
 

@@ -38,7 +38,7 @@ returns c =
     let list = c .before .before .before .before .before .before in
     let read = list .before .before .before .before .before .before .before .before in
     let says = list .list-next .ensures in
-    (says .1 .0, (says .1 .1 .0, (says .1 .1 .1 .0, (says .1 .1 .1 .1 .0, (omega arith, (read .read-next .ensures .0, read .read-next .ensures .1 .0))))))
+    (says .0, (says .1 .0, (says .1 .1 .0, (says .1 .1 .1 .0, (says .1 .1 .1 .1 .0, (omega arith, (read .read-next .ensures .0, read .read-next .ensures .1 .0)))))))
 
 pub next-step-spec : {M : Type 1} → statement M
 next-step-spec =

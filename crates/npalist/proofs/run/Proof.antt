@@ -2,6 +2,7 @@
 use Prim.Native.Nat.{_-_, _≤_}
 use mathlib.Core.Path.{_≡_}
 use lib.ListN.{length}
+use native.Mathlib.Omega.{arith}
 use borrow.Author.Needs.{needs}
 use Rattle.npalist.proofs.run.Statement.{statement}
 use Rattle.npalist.proofs.run.Tie as tie
@@ -36,7 +37,12 @@ next-step-requires : tie.Need-next-step-requires Inv-loop μ-loop
 next-step-requires c κs = search needs
 
 print-requires-2 : tie.Need-print-requires-2 Inv-loop μ-loop
-print-requires-2 c κs = search needs
+print-requires-2 c κs =
+    let step = c .before .before .before .before .before .before .before .before .before in
+    let turn = step .before .before .before .before .before .before .loop in
+    let room : step .next-step .result .end ≤ length (step .next-step .last .1 .1 .1 .1 .0) =
+    omega (arith, step .next-step .ensures .1 .1 .1 .1 .1 .0, step .next-step .kept .1 .1 .1 .1 .0, turn .inv .4, c .before .before .before .before .before .before .before .before .before .before .before .before .before .before .before .before .before .before .before .before .before .before .before .before .before .before .before .pre .1 .1 .1) in
+    room
 
 same-length-2 : tie.Need-same-length-2 Inv-loop μ-loop
 same-length-2 c = search needs
