@@ -17,6 +17,7 @@ ghost use Rattle.words.specs.Words.{word32};
 ghost use Rattle.reading.specs.Interval.{rowAt};
 ghost use Rattle.assessment.specs.Assessment.{rowFigures};
 
+// The first six words of a row in the result.
 pub struct Figures {
     pub expected: Kilowatts,
     pub actual: Kilowatts,

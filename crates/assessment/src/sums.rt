@@ -17,6 +17,7 @@ ghost use Rattle.words.specs.Lists.{any};
 ghost use Rattle.reading.specs.Interval.{headerOf, rowsOf, pointsOutside};
 ghost use Rattle.assessment.specs.Assessment.{numerator, denominator};
 
+// The two sides of the balancing ratio.
 pub struct Ratio {
     pub numerator: Kilowatts,
     pub denominator: Kilowatts,

@@ -37,6 +37,7 @@ pub const OFFSET: usize = 6;
 
 pub const LAST: usize = 7;
 
+// An account: its id, the largest commitment so far, and the sums charged and credited.
 pub struct Account {
     pub id: u64,
     pub largest: Kilowatts,

@@ -15,6 +15,13 @@ ghost use Rattle.listing.specs.Room.{fieldRoom, refusedRoom, cutRoom, ro
 pub const HEADING: [u8; 74] =
     *b"interval,id,expected,actual,outage,economic,shortfall,bonus,charge,credit\n";
 
+// A number takes at most 20 digits and the byte that ends it; the line of a row has ten numbers, a pool line five behind its name.
+const FIELD_ROOM: usize = 21;
+
+pub const ROW_ROOM: usize = 10 * FIELD_ROOM;
+
+pub const POOL_ROOM: usize = 5 + 5 * FIELD_ROOM;
+
 // Writes a byte.
 fn put_byte(out: &mut [u8], at: usize, byte: u8) -> usize
     requires { ⌜ at < length (now out) ⌝ }

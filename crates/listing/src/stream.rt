@@ -2,11 +2,19 @@
 
 use crate::blocks::Listed;
 use crate::blocks::list_block;
+use crate::lines::POOL_ROOM;
+use crate::lines::ROW_ROOM;
 use crate::lines::put_cut;
 use crate::lines::put_refused;
+use ledger::layout::ACCOUNT_BYTES;
+use ledger::layout::HEADER_BYTES;
 use reading::block::MOST_BYTES as MOST_BLOCK_BYTES;
+use reading::block::MOST_IDS;
 use reading::interval::MOST_BYTES as MOST_FILE_BYTES;
+use reading::interval::MOST_ROWS;
 use reading::interval::word;
+use settling::grounds::RESULT_HEADER_BYTES;
+use settling::grounds::RESULT_ROW_BYTES;
 ghost use mathlib.Core.Path.{_≡_};
 ghost use mathlib.Core.List.{[]};
 ghost use mathlib.Core.Bool.{false, cond};
@@ -19,6 +27,15 @@ ghost use Rattle.listing.specs.Npalist.{mostBytes, bytesDue, nextListed}
 ghost use Rattle.listing.specs.Room.{cutRoom, blockRoom, nextResult};
 
 pub const LENGTH_BYTES: usize = 4;
+
+// The buffers of a listing: a length and the longest block, a ledger of the most accounts, a result of the most rows, and the lines of such a file.
+pub const STREAM_BYTES: usize = LENGTH_BYTES + MOST_FILE_BYTES;
+
+pub const LEDGER_BYTES: usize = HEADER_BYTES + ACCOUNT_BYTES * MOST_IDS as usize;
+
+pub const RESULT_BYTES: usize = RESULT_HEADER_BYTES + RESULT_ROW_BYTES * MOST_ROWS as usize;
+
+pub const LINES_BYTES: usize = MOST_ROWS as usize * ROW_ROOM + POOL_ROOM;
 
 // The most bytes of a block.
 fn most_bytes(number: u64) -> usize

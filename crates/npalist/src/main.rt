@@ -3,7 +3,11 @@
 use libc::STDIN_FILENO;
 use libc::STDOUT_FILENO;
 use listing::lines::put_heading;
+use listing::stream::LEDGER_BYTES;
 use listing::stream::LENGTH_BYTES;
+use listing::stream::LINES_BYTES;
+use listing::stream::RESULT_BYTES;
+use listing::stream::STREAM_BYTES;
 use listing::stream::bytes_due;
 use listing::stream::list_next;
 ghost use mathlib.Core.Path.{_≡_};
@@ -15,15 +19,6 @@ ghost use Rattle.listing.specs.Room.{blockRoom, nextResult};
 
 // A loop that is proved has to end, and nothing says that standard input does: no stream has so many blocks.
 const MOST_BLOCKS: u64 = 1099511627776;
-
-// The buffers: a length and the longest block, a ledger of the most accounts, a result of the most rows, and the lines of such a file.
-const STREAM_BYTES: usize = 4 + 49152;
-
-const LEDGER_BYTES: usize = 64 + 32 * 512;
-
-const RESULT_BYTES: usize = 64 + 64 * 512;
-
-const LINES_BYTES: usize = 512 * 210 + 110;
 
 // How many bytes came of a length, and of the block that is due behind it.
 struct Came {

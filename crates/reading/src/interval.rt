@@ -26,7 +26,7 @@ pub const INTERVALS_PER_DAY: u64 = 288;
 
 const MOST_IMPORTS: u64 = 40000000;
 
-const MOST_ROWS: u64 = 512;
+pub const MOST_ROWS: u64 = 512;
 
 const MOST_POINTS: u64 = 2048;
 

@@ -22,6 +22,7 @@ use ledger::layout::NET_CONE;
 use ledger::layout::word as ledger_word;
 use ledger::layout::write_header;
 use reading::interval::INTERVAL;
+use reading::interval::MOST_ROWS;
 use reading::interval::ROWS;
 use reading::interval::word;
 ghost use mathlib.Core.Path.{_≡_};
@@ -37,13 +38,14 @@ ghost use Rattle.settling.specs.Scratch.{Passed, chargedWords};
 
 const MILLIONTHS: u64 = 1000000;
 
-// Words of scratch: eight for each of 512 rows.
-const SCRATCH: usize = 4096;
+// Words of scratch: those of the most rows.
+const SCRATCH: usize = ROW_WORDS * MOST_ROWS as usize;
 
-pub struct Charged {
-    pub numerator: Kilowatts,
-    pub denominator: Kilowatts,
-    pub charges: Cents,
+// What is known of an interval before its pool is shared.
+struct Charged {
+    numerator: Kilowatts,
+    denominator: Kilowatts,
+    charges: Cents,
 }
 
 // Fills the rows' words but for their credits, and adds up the charges.

@@ -1,5 +1,6 @@
 // What an accepted file leaves in the ledger and in the result.
 
+use crate::grounds::RESULT_HEADER_BYTES;
 use crate::scratch::CHARGE;
 use crate::scratch::CREDIT;
 use crate::scratch::ROW_WORDS;
@@ -124,5 +125,5 @@ pub fn write_result(
         count,
     ];
     store_words(&words, result);
-    store_words(rows, &mut result[64..]);
+    store_words(rows, &mut result[RESULT_HEADER_BYTES..]);
 }
