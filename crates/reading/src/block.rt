@@ -12,7 +12,7 @@ const HEADER_BYTES: usize = 20;
 
 pub const MOST_BYTES: usize = 4096;
 
-const FORMAT: u64 = 1;
+const BLOCK_FORMAT: u64 = 1;
 
 const MOST_NET_CONE: u64 = 200000;
 
@@ -72,7 +72,7 @@ pub fn id_at(block: &[u8], i: usize) -> u64
 pub fn not_a_block(block: &[u8]) -> bool
     ensures { λ r. ⌜ r ≡ notABlock (now (block .entry)) ⌝ }
 {
-    not_of_format(block, HEADER_BYTES, MOST_BYTES, FORMAT)
+    not_of_format(block, HEADER_BYTES, MOST_BYTES, BLOCK_FORMAT)
 }
 
 // Ground 2.

@@ -45,8 +45,6 @@ pub const MOST_KILOWATTS: u64 = 4000000;
 const MOST_PRICE: u64 = 1000000;
 
 // Words of the header.
-pub const FORMAT: usize = 0;
-
 pub const INTERVAL: usize = 1;
 
 pub const NET_CONE: usize = 2;
