@@ -20,14 +20,14 @@ ghost use lib.ListN.{length, drop};
 ghost use lib.IntN.{natAbs, _-ℤ_};
 ghost use lib.Signed.{leZ, ltZ, mag};
 ghost use Rattle.words.specs.Words.{word32, entries};
-ghost use Rattle.reading.specs.Interval.{rowAt, pointOf, pointBytes};
+ghost use Rattle.reading.specs.Interval.{rowBytes, rowAt, pointOf, pointBytes};
 ghost use Rattle.assessment.specs.Assessment.{fromLastReached, alongCurve, minimumOnline, scheduled as scheduledOf, firstKw, considered as consideredBy};
 
 const POINT_WORDS: usize = 2;
 
 // The price of point i.
 fn price(points: &[u8], i: usize) -> i64
-    requires { ⌜ 8 * i + 8 ≤ length (now points) ⌝ }
+    requires { ⌜ pointBytes * i + pointBytes ≤ length (now points) ⌝ }
     ensures { λ r. ⌜ r ≡ pointOf (drop (pointBytes * i) (now (points .entry))) .price ⌝ }
     ensures { λ r. ⌜ mag r < 2 ^ 31 ⌝ }
 {
@@ -36,7 +36,7 @@ fn price(points: &[u8], i: usize) -> i64
 
 // The kW of point i.
 fn kw(points: &[u8], i: usize) -> Kilowatts
-    requires { ⌜ 8 * i + 8 ≤ length (now points) ⌝ }
+    requires { ⌜ pointBytes * i + pointBytes ≤ length (now points) ⌝ }
     ensures { λ r. ⌜ r .0 ≡ pointOf (drop (pointBytes * i) (now (points .entry))) .kw ⌝ }
     ensures { λ r. ⌜ r .0 < 2 ^ 32 ⌝ }
 {
@@ -45,7 +45,7 @@ fn kw(points: &[u8], i: usize) -> Kilowatts
 
 // Whether point i is priced at or below the LMP.
 fn reached(points: &[u8], i: usize, lmp: i64) -> bool
-    requires { ⌜ 8 * i + 8 ≤ length (now points) ⌝ }
+    requires { ⌜ pointBytes * i + pointBytes ≤ length (now points) ⌝ }
     ensures { λ r. ⌜ r ≡ leZ (pointOf (drop (pointBytes * i) (now (points .entry))) .price) lmp ⌝ }
 {
     price(points, i) <= lmp
@@ -53,7 +53,7 @@ fn reached(points: &[u8], i: usize, lmp: i64) -> bool
 
 // Whether the LMP is above the price of point i.
 fn above(points: &[u8], i: usize, lmp: i64) -> bool
-    requires { ⌜ 8 * i + 8 ≤ length (now points) ⌝ }
+    requires { ⌜ pointBytes * i + pointBytes ≤ length (now points) ⌝ }
     ensures { λ r. ⌜ r ≡ ltZ (pointOf (drop (pointBytes * i) (now (points .entry))) .price) lmp ⌝ }
 {
     price(points, i) < lmp
@@ -62,7 +62,7 @@ fn above(points: &[u8], i: usize, lmp: i64) -> bool
 // How many of n points are left from the last one priced at or below the LMP on; 0 if there is none.
 // The search goes down from the final point, so that the first one met is the last of equal prices too.
 fn points_left(points: &[u8], n: usize, lmp: i64) -> usize
-    requires { ⌜ 8 * n ≤ length (now points) ⌝ }
+    requires { ⌜ pointBytes * n ≤ length (now points) ⌝ }
     ensures { λ r. ⌜ r ≡ length (fromLastReached lmp (entries pointBytes pointOf n (now (points .entry)))) ⌝ }
 {
     let mut i = n;
@@ -115,7 +115,7 @@ fn towards(points: &[u8], i: usize, lmp: i64) -> Kilowatts
 
 // The kW on the curve at the LMP, 0 if no point is reached.
 fn on_curve(points: &[u8], n: usize, lmp: i64) -> Kilowatts
-    requires { ⌜ 8 * n ≤ length (now points) ⌝ }
+    requires { ⌜ pointBytes * n ≤ length (now points) ⌝ }
     ensures { λ r. ⌜ r .0 ≡ alongCurve lmp (fromLastReached lmp (entries pointBytes pointOf n (now (points .entry)))) ⌝ }
     ensures { λ r. ⌜ r .0 < 2 ^ 33 ⌝ }
 {
@@ -131,7 +131,7 @@ fn on_curve(points: &[u8], n: usize, lmp: i64) -> Kilowatts
 
 // The kW of the last point at or below the LMP, 0 if there is none.
 fn last_kw(points: &[u8], n: usize, lmp: i64) -> Kilowatts
-    requires { ⌜ 8 * n ≤ length (now points) ⌝ }
+    requires { ⌜ pointBytes * n ≤ length (now points) ⌝ }
     ensures { λ r. ⌜ r .0 ≡ firstKw (fromLastReached lmp (entries pointBytes pointOf n (now (points .entry)))) ⌝ }
 {
     let rest = points_left(points, n, lmp);
@@ -143,7 +143,7 @@ fn last_kw(points: &[u8], n: usize, lmp: i64) -> Kilowatts
 
 // The economic minimum if online, else 0.
 fn minimum_online(row: &[u8]) -> Kilowatts
-    requires { ⌜ 56 ≤ length (now row) ⌝ }
+    requires { ⌜ rowBytes ≤ length (now row) ⌝ }
     ensures { λ r. ⌜ r .0 ≡ minimumOnline (rowAt (now (row .entry)) []) ⌝ }
     ensures { λ r. ⌜ r .0 < 2 ^ 32 ⌝ }
 {
@@ -155,8 +155,8 @@ fn minimum_online(row: &[u8]) -> Kilowatts
 
 // Scheduled, of a row and the part of its file that starts at its first point.
 pub fn scheduled(row: &[u8], points: &[u8]) -> Kilowatts
-    requires { ⌜ 56 ≤ length (now row) ⌝ }
-    requires { ⌜ 8 * word32 (now row) 13 ≤ length (now points) ⌝ }
+    requires { ⌜ rowBytes ≤ length (now row) ⌝ }
+    requires { ⌜ pointBytes * word32 (now row) 13 ≤ length (now points) ⌝ }
     ensures { λ r. ⌜ r .0 ≡ scheduledOf (rowAt (now (row .entry)) (now (points .entry))) ⌝ }
     ensures { λ r. ⌜ r .0 < 2 ^ 33 ⌝ }
 {
@@ -178,8 +178,8 @@ pub fn scheduled(row: &[u8], points: &[u8]) -> Kilowatts
 
 // Considered: every row of a kind; of PRD rows only one whose last point at or below the LMP is above 0 kW.
 pub fn considered(row: &[u8], points: &[u8]) -> bool
-    requires { ⌜ 56 ≤ length (now row) ⌝ }
-    requires { ⌜ 8 * word32 (now row) 13 ≤ length (now points) ⌝ }
+    requires { ⌜ rowBytes ≤ length (now row) ⌝ }
+    requires { ⌜ pointBytes * word32 (now row) 13 ≤ length (now points) ⌝ }
     ensures { λ r. ⌜ r ≡ consideredBy (rowAt (now (row .entry)) (now (points .entry))) ⌝ }
 {
     let n = word(row, POINT_COUNT) as usize;

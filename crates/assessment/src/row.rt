@@ -14,7 +14,7 @@ ghost use mathlib.Core.List.{[]};
 ghost use Prim.Native.Nat.{_*_, _≤_, _^_};
 ghost use lib.ListN.{length};
 ghost use Rattle.words.specs.Words.{word32};
-ghost use Rattle.reading.specs.Interval.{rowAt};
+ghost use Rattle.reading.specs.Interval.{rowBytes, pointBytes, mostKilowatts, rowAt};
 ghost use Rattle.assessment.specs.Assessment.{rowFigures};
 
 // The first six words of a row in the result.
@@ -34,9 +34,9 @@ pub fn row_figures(
     numerator: Kilowatts,
     denominator: Kilowatts,
 ) -> Figures
-    requires { ⌜ 56 ≤ length (now row) ⌝ }
-    requires { ⌜ 8 * word32 (now row) 13 ≤ length (now points) ⌝ }
-    requires { ⌜ rowAt (now row) [] .committed ≤ 4000000 ⌝ }
+    requires { ⌜ rowBytes ≤ length (now row) ⌝ }
+    requires { ⌜ pointBytes * word32 (now row) 13 ≤ length (now points) ⌝ }
+    requires { ⌜ rowAt (now row) [] .committed ≤ mostKilowatts ⌝ }
     requires { ⌜ numerator .0 ≤ 2 ^ 40 ⌝ }
     ensures { λ r.
         let f = rowFigures (record { numerator = numerator .0; denominator = denominator .0 }) (rowAt (now (row .entry)) (now (points .entry))) in

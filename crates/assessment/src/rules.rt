@@ -25,7 +25,8 @@ ghost use lib.Dec.{eqb};
 ghost use lib.IntN.{_+ℤ_};
 ghost use lib.Signed.{mag};
 ghost use Rattle.words.specs.Words.{word32};
-ghost use Rattle.reading.specs.Interval.{headerOf, rowAt};
+ghost use Rattle.reading.specs.Block.{mostNetCone, leapYear};
+ghost use Rattle.reading.specs.Interval.{headerBytes, rowBytes, pointBytes, mostKilowatts, headerOf, rowAt};
 ghost use Rattle.assessment.specs.Assessment.{
   orZero,
   numeratorShare,
@@ -87,7 +88,7 @@ fn sum_or_zero(a: i64, b: i64) -> u64
 
 // Actual: metered plus adjustment, or 0 if that is negative.
 pub fn actual(row: &[u8]) -> Kilowatts
-    requires { ⌜ 56 ≤ length (now row) ⌝ }
+    requires { ⌜ rowBytes ≤ length (now row) ⌝ }
     ensures { λ r. ⌜ r .0 ≡ actualOf (rowAt (now (row .entry)) []) ⌝ }
     ensures { λ r. ⌜ r .0 < 2 ^ 33 ⌝ }
 {
@@ -96,7 +97,7 @@ pub fn actual(row: &[u8]) -> Kilowatts
 
 // A whole by the ratio of two figures, rounded down once, never above the whole, and 0 if there is no denominator.
 pub fn portion(whole: u64, numerator: Kilowatts, denominator: Kilowatts) -> u64
-    requires { ⌜ whole ≤ 4000000 ⌝ }
+    requires { ⌜ whole ≤ mostKilowatts ⌝ }
     requires { ⌜ numerator .0 ≤ 2 ^ 40 ⌝ }
     ensures { λ r. ⌜ r ≡ portionOf (record { numerator = numerator .0; denominator = denominator .0 }) whole ⌝ }
 {
@@ -105,8 +106,8 @@ pub fn portion(whole: u64, numerator: Kilowatts, denominator: Kilowatts) -> u64
 
 // Expected, by the kind word.
 pub fn expected(row: &[u8], numerator: Kilowatts, denominator: Kilowatts) -> Kilowatts
-    requires { ⌜ 56 ≤ length (now row) ⌝ }
-    requires { ⌜ rowAt (now row) [] .committed ≤ 4000000 ⌝ }
+    requires { ⌜ rowBytes ≤ length (now row) ⌝ }
+    requires { ⌜ rowAt (now row) [] .committed ≤ mostKilowatts ⌝ }
     requires { ⌜ numerator .0 ≤ 2 ^ 40 ⌝ }
     ensures { λ r. ⌜ r .0 ≡ expectedOf (record { numerator = numerator .0; denominator = denominator .0 }) (rowAt (now (row .entry)) []) ⌝ }
 {
@@ -126,7 +127,7 @@ pub fn bonus(
     sched: Kilowatts,
     expect: Kilowatts,
 ) -> Kilowatts
-    requires { ⌜ 56 ≤ length (now row) ⌝ }
+    requires { ⌜ rowBytes ≤ length (now row) ⌝ }
     requires { ⌜ act .0 ≡ actualOf (rowAt (now row) (now points)) ⌝ }
     requires { ⌜ sched .0 ≡ scheduledOf (rowAt (now row) (now points)) ⌝ }
     ensures { λ r. ⌜ r .0 ≡ bonusOf (rowAt (now (row .entry)) (now (points .entry))) (expect .0) ⌝ }
@@ -141,7 +142,7 @@ pub fn bonus(
 
 // What a demand or PRD row adds to the numerator: its bonus, of which the committed kW are expected.
 fn reduction(row: &[u8]) -> Kilowatts
-    requires { ⌜ 56 ≤ length (now row) ⌝ }
+    requires { ⌜ rowBytes ≤ length (now row) ⌝ }
     ensures { λ r. ⌜ r .0 ≡ actualOf (rowAt (now (row .entry)) []) - rowAt (now (row .entry)) [] .committed ⌝ }
     ensures { λ r. ⌜ r .0 < 2 ^ 33 ⌝ }
 {
@@ -150,8 +151,8 @@ fn reduction(row: &[u8]) -> Kilowatts
 
 // What a row adds to the numerator, by the kind word.
 pub fn numerator_share(row: &[u8], points: &[u8]) -> Kilowatts
-    requires { ⌜ 56 ≤ length (now row) ⌝ }
-    requires { ⌜ 8 * word32 (now row) 13 ≤ length (now points) ⌝ }
+    requires { ⌜ rowBytes ≤ length (now row) ⌝ }
+    requires { ⌜ pointBytes * word32 (now row) 13 ≤ length (now points) ⌝ }
     ensures { λ r. ⌜ r .0 ≡ numeratorShare (rowAt (now (row .entry)) (now (points .entry))) ⌝ }
     ensures { λ r. ⌜ r .0 < 2 ^ 33 ⌝ }
 {
@@ -171,7 +172,7 @@ pub fn numerator_share(row: &[u8], points: &[u8]) -> Kilowatts
 
 // What the net imports add to the numerator: only when region-wide, if positive.
 pub fn import_share(file: &[u8]) -> Kilowatts
-    requires { ⌜ 40 ≤ length (now file) ⌝ }
+    requires { ⌜ headerBytes ≤ length (now file) ⌝ }
     ensures { λ r. ⌜ r .0 ≡ importShare (headerOf (now (file .entry))) ⌝ }
     ensures { λ r. ⌜ r .0 < 2 ^ 33 ⌝ }
 {
@@ -183,7 +184,7 @@ pub fn import_share(file: &[u8]) -> Kilowatts
 
 // What a row adds to the denominator, by the kind word.
 pub fn denominator_share(row: &[u8]) -> Kilowatts
-    requires { ⌜ 56 ≤ length (now row) ⌝ }
+    requires { ⌜ rowBytes ≤ length (now row) ⌝ }
     ensures { λ r. ⌜ r .0 ≡ denominatorShare (rowAt (now (row .entry)) []) ⌝ }
     ensures { λ r. ⌜ r .0 < 2 ^ 32 ⌝ }
 {
@@ -196,7 +197,7 @@ pub fn denominator_share(row: &[u8]) -> Kilowatts
 
 // Outage, by the kind word.
 pub fn outage(row: &[u8]) -> Kilowatts
-    requires { ⌜ 56 ≤ length (now row) ⌝ }
+    requires { ⌜ rowBytes ≤ length (now row) ⌝ }
     ensures { λ r. ⌜ r .0 ≡ outageOf (rowAt (now (row .entry)) []) ⌝ }
     ensures { λ r. ⌜ r .0 < 2 ^ 32 ⌝ }
 {
@@ -215,7 +216,7 @@ pub fn economic(
     sched: Kilowatts,
     expect: Kilowatts,
 ) -> Kilowatts
-    requires { ⌜ 56 ≤ length (now row) ⌝ }
+    requires { ⌜ rowBytes ≤ length (now row) ⌝ }
     requires { ⌜ act .0 ≡ actualOf (rowAt (now row) (now points)) ⌝ }
     requires { ⌜ sched .0 ≡ scheduledOf (rowAt (now row) (now points)) ⌝ }
     ensures { λ r. ⌜ r .0 ≡ economicOf (rowAt (now (row .entry)) (now (points .entry))) (expect .0) ⌝ }
@@ -251,7 +252,7 @@ pub fn shortfall(
 
 // The largest commitment of an account that a row has raised to its committed kW, if that is larger.
 pub fn raised(row: &[u8], largest: Kilowatts) -> Kilowatts
-    requires { ⌜ 56 ≤ length (now row) ⌝ }
+    requires { ⌜ rowBytes ≤ length (now row) ⌝ }
     ensures { λ r. ⌜ r .0 ≡ raisedOf (rowAt (now (row .entry)) []) (record { id = 0; largest = largest .0; charged = 0; credited = 0 }) .largest ⌝ }
 {
     largest.greater(Kilowatts(word(row, COMMITTED)))
@@ -259,9 +260,9 @@ pub fn raised(row: &[u8], largest: Kilowatts) -> Kilowatts
 
 // The limit of a largest commitment, rounded down.
 pub fn limit(cone: u64, days: u64, kw: Kilowatts) -> Cents
-    requires { ⌜ cone ≤ 200000 ⌝ }
-    requires { ⌜ days ≤ 366 ⌝ }
-    requires { ⌜ kw .0 ≤ 4000000 ⌝ }
+    requires { ⌜ cone ≤ mostNetCone ⌝ }
+    requires { ⌜ days ≤ leapYear ⌝ }
+    requires { ⌜ kw .0 ≤ mostKilowatts ⌝ }
     ensures { λ r. ⌜ r .0 ≡ limitOf (record { netCone = cone; days = days }) (kw .0) ⌝ }
 {
     Cents(LIMIT_FACTOR * cone * days * kw.0 / LIMIT_DIVISOR)
@@ -269,9 +270,9 @@ pub fn limit(cone: u64, days: u64, kw: Kilowatts) -> Cents
 
 // The charge for a shortfall before the limit cuts it, rounded down.
 pub fn full_charge(cone: u64, days: u64, short: Kilowatts) -> Cents
-    requires { ⌜ cone ≤ 200000 ⌝ }
-    requires { ⌜ days ≤ 366 ⌝ }
-    requires { ⌜ short .0 ≤ 4000000 ⌝ }
+    requires { ⌜ cone ≤ mostNetCone ⌝ }
+    requires { ⌜ days ≤ leapYear ⌝ }
+    requires { ⌜ short .0 ≤ mostKilowatts ⌝ }
     ensures { λ r. ⌜ r .0 ≡ fullCharge (record { netCone = cone; days = days }) (short .0) ⌝ }
 {
     Cents(short.0 * cone * days / CHARGE_DIVISOR)
@@ -279,10 +280,10 @@ pub fn full_charge(cone: u64, days: u64, short: Kilowatts) -> Cents
 
 // Charge, to an account that the row has raised: cut to what is left under the limit.
 pub fn charge(cone: u64, days: u64, largest: Kilowatts, charged: Cents, short: Kilowatts) -> Cents
-    requires { ⌜ cone ≤ 200000 ⌝ }
-    requires { ⌜ days ≤ 366 ⌝ }
-    requires { ⌜ largest .0 ≤ 4000000 ⌝ }
-    requires { ⌜ short .0 ≤ 4000000 ⌝ }
+    requires { ⌜ cone ≤ mostNetCone ⌝ }
+    requires { ⌜ days ≤ leapYear ⌝ }
+    requires { ⌜ largest .0 ≤ mostKilowatts ⌝ }
+    requires { ⌜ short .0 ≤ mostKilowatts ⌝ }
     ensures { λ r. ⌜ r .0 ≡ chargeOf (record { netCone = cone; days = days }) (record { id = 0; largest = largest .0; charged = charged .0; credited = 0 }) (short .0) ⌝ }
 {
     let full = full_charge(cone, days, short);

@@ -14,7 +14,7 @@ ghost use mathlib.Core.Bool.{false};
 ghost use Prim.Native.Nat.{_+_, _*_, _≤_};
 ghost use lib.ListN.{length};
 ghost use Rattle.words.specs.Lists.{any};
-ghost use Rattle.reading.specs.Interval.{headerOf, rowsOf, pointsOutside};
+ghost use Rattle.reading.specs.Interval.{headerBytes, rowBytes, pointBytes, mostRows, headerOf, rowsOf, pointsOutside};
 ghost use Rattle.assessment.specs.Assessment.{numerator, denominator};
 
 // The two sides of the balancing ratio.
@@ -25,10 +25,10 @@ pub struct Ratio {
 
 // Numerator and denominator, of a file that grounds 7, 11 and 14 do not refuse.
 pub fn ratio_sides(file: &[u8]) -> Ratio
-    requires { ⌜ 40 ≤ length (now file) ⌝ }
-    requires { ⌜ headerOf (now file) .rowCount ≤ 512 ⌝ }
-    requires { ⌜ headerOf (now file) .rowsOffset + 56 * headerOf (now file) .rowCount ≤ length (now file) ⌝ }
-    requires { ⌜ headerOf (now file) .pointsOffset + 8 * headerOf (now file) .pointCount ≤ length (now file) ⌝ }
+    requires { ⌜ headerBytes ≤ length (now file) ⌝ }
+    requires { ⌜ headerOf (now file) .rowCount ≤ mostRows ⌝ }
+    requires { ⌜ headerOf (now file) .rowsOffset + rowBytes * headerOf (now file) .rowCount ≤ length (now file) ⌝ }
+    requires { ⌜ headerOf (now file) .pointsOffset + pointBytes * headerOf (now file) .pointCount ≤ length (now file) ⌝ }
     requires { ⌜ any (pointsOutside (headerOf (now file) .pointCount)) (rowsOf (now file)) ≡ false ⌝ }
     ensures { λ r. ⌜ r .numerator .0 ≡ numerator (headerOf (now (file .entry))) (rowsOf (now (file .entry))) ⌝ }
     ensures { λ r. ⌜ r .denominator .0 ≡ denominator (rowsOf (now (file .entry))) ⌝ }

@@ -26,8 +26,8 @@ ghost use mathlib.Core.Bool.{false};
 ghost use Prim.Native.Nat.{_≤_};
 ghost use lib.ListN.{length};
 ghost use Rattle.words.specs.Lists.{any};
-ghost use Rattle.reading.specs.Block.{idsOutOfOrder};
-ghost use Rattle.ledger.specs.Ledger.{ledgerBytes, accountCount, ledgerOf, idsIn, notLaidOut, accountOutside, doesNotClose, notALedger};
+ghost use Rattle.reading.specs.Block.{mostNetCone, leapYear, mostIds, idsOutOfOrder};
+ghost use Rattle.ledger.specs.Ledger.{ledgerHeaderBytes, mostCents, ledgerBytes, accountCount, ledgerOf, idsIn, notLaidOut, accountOutside, doesNotClose, notALedger};
 
 pub const MOST_CENTS: u64 = 1099511627775;
 
@@ -35,7 +35,7 @@ const MOST_CREDITED: u64 = 224870400000000;
 
 // Whether word 0, 6 or 7 is not as laid out.
 fn not_laid_out(ledger: &[u8]) -> bool
-    requires { ⌜ 64 ≤ length (now ledger) ⌝ }
+    requires { ⌜ ledgerHeaderBytes ≤ length (now ledger) ⌝ }
     ensures { λ r. ⌜ r ≡ notLaidOut (now (ledger .entry)) ⌝ }
 {
     if word(ledger, FORMAT) != LEDGER_FORMAT {
@@ -49,7 +49,7 @@ fn not_laid_out(ledger: &[u8]) -> bool
 
 // Whether the accounts' ids are not in strict order from above 0 on.
 fn ids_out_of_order(ledger: &[u8]) -> bool
-    requires { ⌜ accountCount (now ledger) ≤ 512 ⌝ }
+    requires { ⌜ accountCount (now ledger) ≤ mostIds ⌝ }
     requires { ⌜ ledgerBytes (accountCount (now ledger)) ≤ length (now ledger) ⌝ }
     ensures { λ r. ⌜ r ≡ idsOutOfOrder (idsIn (ledgerOf (now (ledger .entry)))) ⌝ }
 {
@@ -69,8 +69,8 @@ fn ids_out_of_order(ledger: &[u8]) -> bool
 
 // Whether an account's commitment, charged sum or credited sum is too large.
 fn account_outside(cone: u64, days: u64, a: Account) -> bool
-    requires { ⌜ cone ≤ 200000 ⌝ }
-    requires { ⌜ days ≤ 366 ⌝ }
+    requires { ⌜ cone ≤ mostNetCone ⌝ }
+    requires { ⌜ days ≤ leapYear ⌝ }
     ensures { λ r.
         ⌜ r ≡ accountOutside (record { netCone = cone; days = days })
         (record { id = a .id; largest = a .largest .0; charged = a .charged .0; credited = a .credited .0 }) ⌝ }
@@ -87,10 +87,10 @@ fn account_outside(cone: u64, days: u64, a: Account) -> bool
 
 // Whether that holds of one of the accounts.
 fn accounts_outside(ledger: &[u8]) -> bool
-    requires { ⌜ accountCount (now ledger) ≤ 512 ⌝ }
+    requires { ⌜ accountCount (now ledger) ≤ mostIds ⌝ }
     requires { ⌜ ledgerBytes (accountCount (now ledger)) ≤ length (now ledger) ⌝ }
-    requires { ⌜ ledgerOf (now ledger) .terms .netCone ≤ 200000 ⌝ }
-    requires { ⌜ ledgerOf (now ledger) .terms .days ≤ 366 ⌝ }
+    requires { ⌜ ledgerOf (now ledger) .terms .netCone ≤ mostNetCone ⌝ }
+    requires { ⌜ ledgerOf (now ledger) .terms .days ≤ leapYear ⌝ }
     ensures { λ r.
         let l = ledgerOf (now (ledger .entry)) in
         ⌜ r ≡ any (accountOutside (l .terms)) (l .accounts) ⌝ }
@@ -110,11 +110,11 @@ fn accounts_outside(ledger: &[u8]) -> bool
 
 // Whether charged sums are not credited sums plus carried, where no account is outside its bounds.
 fn does_not_close(ledger: &[u8]) -> bool
-    requires { ⌜ accountCount (now ledger) ≤ 512 ⌝ }
+    requires { ⌜ accountCount (now ledger) ≤ mostIds ⌝ }
     requires { ⌜ ledgerBytes (accountCount (now ledger)) ≤ length (now ledger) ⌝ }
-    requires { ⌜ ledgerOf (now ledger) .terms .netCone ≤ 200000 ⌝ }
-    requires { ⌜ ledgerOf (now ledger) .terms .days ≤ 366 ⌝ }
-    requires { ⌜ ledgerOf (now ledger) .carried ≤ 1099511627775 ⌝ }
+    requires { ⌜ ledgerOf (now ledger) .terms .netCone ≤ mostNetCone ⌝ }
+    requires { ⌜ ledgerOf (now ledger) .terms .days ≤ leapYear ⌝ }
+    requires { ⌜ ledgerOf (now ledger) .carried ≤ mostCents ⌝ }
     requires { ⌜ any (accountOutside (ledgerOf (now ledger) .terms)) (ledgerOf (now ledger) .accounts) ≡ false ⌝ }
     ensures { λ r. ⌜ r ≡ doesNotClose (ledgerOf (now (ledger .entry))) ⌝ }
 {

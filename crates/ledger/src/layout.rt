@@ -9,7 +9,7 @@ ghost use mathlib.Core.List.{_∷_, []};
 ghost use Prim.Native.Nat.{_+_, _*_, _≤_};
 ghost use lib.ListN.{length, drop};
 ghost use Rattle.words.specs.Words.{word64 as wordOf, written, writtenAt};
-ghost use Rattle.ledger.specs.Ledger.{accountAt};
+ghost use Rattle.ledger.specs.Ledger.{ledgerHeaderBytes, accountBytes, ledgerFormat, accountsOffset, accountAt};
 
 pub const LEDGER_FORMAT: u64 = 1;
 
@@ -55,7 +55,7 @@ pub fn word(ledger: &[u8], k: usize) -> u64
 
 // Account j.
 pub fn account_at(ledger: &[u8], j: usize) -> Account
-    requires { ⌜ 64 + 32 * j + 32 ≤ length (now ledger) ⌝ }
+    requires { ⌜ ledgerHeaderBytes + accountBytes * j + accountBytes ≤ length (now ledger) ⌝ }
     ensures { λ r.
         let a = accountAt (drop (64 + 32 * j) (now (ledger .entry))) in
         ⌜ (r .id ≡ a .id) × (r .largest .0 ≡ a .largest) × (r .charged .0 ≡ a .charged) × (r .credited .0 ≡ a .credited) ⌝ }
@@ -78,8 +78,8 @@ pub fn write_header(
     carried: Cents,
     accounts: u64,
 )
-    requires { ⌜ 64 ≤ length (now ledger) ⌝ }
-    ensures { λ _. ⌜ now (ledger .exit) ≡ written (1 ∷ cone ∷ days ∷ earliest ∷ carried .0 ∷ accounts ∷ 8 ∷ 0 ∷ []) (now (ledger .entry)) ⌝ }
+    requires { ⌜ ledgerHeaderBytes ≤ length (now ledger) ⌝ }
+    ensures { λ _. ⌜ now (ledger .exit) ≡ written (ledgerFormat ∷ cone ∷ days ∷ earliest ∷ carried .0 ∷ accounts ∷ accountsOffset ∷ 0 ∷ []) (now (ledger .entry)) ⌝ }
 {
     let words = [
         LEDGER_FORMAT,
@@ -103,7 +103,7 @@ pub fn write_account(
     charged: Cents,
     credited: Cents,
 )
-    requires { ⌜ at + 32 ≤ length (now ledger) ⌝ }
+    requires { ⌜ at + accountBytes ≤ length (now ledger) ⌝ }
     ensures { λ _. ⌜ now (ledger .exit) ≡ writtenAt at (id ∷ largest .0 ∷ charged .0 ∷ credited .0 ∷ []) (now (ledger .entry)) ⌝ }
 {
     let words = [id, largest.0, charged.0, credited.0];

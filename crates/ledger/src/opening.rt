@@ -20,9 +20,9 @@ ghost use Prim.Native.Nat.{_+_, _*_, _≤_};
 ghost use lib.ListN.{length};
 ghost use Rattle.words.specs.Words.{written, writtenAt};
 ghost use Rattle.words.specs.Grounds.{answered};
-ghost use Rattle.reading.specs.Block.{blockOf};
+ghost use Rattle.reading.specs.Block.{blockHeaderBytes, idBytes, blockOf};
 ghost use Rattle.assessment.specs.Assessment.{emptyAccount};
-ghost use Rattle.ledger.specs.Ledger.{ledgerBytes, accountWords, ledgerWords};
+ghost use Rattle.ledger.specs.Ledger.{ledgerHeaderBytes, ledgerBytes, accountWords, ledgerWords};
 ghost use Rattle.ledger.specs.Opening.{openingGrounds, openedLedger, opening as openingOf};
 
 // The first of grounds 1 to 5 that applies, or 0.
@@ -49,10 +49,10 @@ fn refusal(block: &[u8], ledger: &[u8]) -> u32
 
 // Writes an account for each id, with nothing in it.
 fn write_accounts(block: &[u8], ledger: &mut [u8])
-    requires { ⌜ 20 ≤ length (now block) ⌝ }
-    requires { ⌜ blockOf (now block) .idsOffset + 4 * blockOf (now block) .idCount ≤ length (now block) ⌝ }
+    requires { ⌜ blockHeaderBytes ≤ length (now block) ⌝ }
+    requires { ⌜ blockOf (now block) .idsOffset + idBytes * blockOf (now block) .idCount ≤ length (now block) ⌝ }
     requires { ⌜ ledgerBytes (blockOf (now block) .idCount) ≤ length (now ledger) ⌝ }
-    ensures { λ _. ⌜ now (ledger .exit) ≡ writtenAt 64 (accountWords (map emptyAccount (blockOf (now (block .entry)) .ids))) (now (ledger .entry)) ⌝ }
+    ensures { λ _. ⌜ now (ledger .exit) ≡ writtenAt ledgerHeaderBytes (accountWords (map emptyAccount (blockOf (now (block .entry)) .ids))) (now (ledger .entry)) ⌝ }
 {
     let count = id_count(block) as usize;
     let mut i = 0;
@@ -72,8 +72,8 @@ fn write_accounts(block: &[u8], ledger: &mut [u8])
 
 // Writes the ledger of a block that no ground refuses.
 fn write_opened(block: &[u8], ledger: &mut [u8])
-    requires { ⌜ 20 ≤ length (now block) ⌝ }
-    requires { ⌜ blockOf (now block) .idsOffset + 4 * blockOf (now block) .idCount ≤ length (now block) ⌝ }
+    requires { ⌜ blockHeaderBytes ≤ length (now block) ⌝ }
+    requires { ⌜ blockOf (now block) .idsOffset + idBytes * blockOf (now block) .idCount ≤ length (now block) ⌝ }
     requires { ⌜ ledgerBytes (blockOf (now block) .idCount) ≤ length (now ledger) ⌝ }
     ensures { λ _. ⌜ now (ledger .exit) ≡ written (ledgerWords (openedLedger (now (block .entry)))) (now (ledger .entry)) ⌝ }
 {

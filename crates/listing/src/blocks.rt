@@ -17,8 +17,10 @@ ghost use mathlib.Core.Path.{_≡_};
 ghost use Prim.Native.Nat.{_+_, _*_, _≤_};
 ghost use lib.ListN.{length, drop, replicate};
 ghost use Rattle.words.specs.Words.{placedAt};
-ghost use Rattle.reading.specs.Interval.{headerOf, rowsOf};
-ghost use Rattle.settling.specs.Settling.{settling};
+ghost use Rattle.reading.specs.Block.{mostIds};
+ghost use Rattle.reading.specs.Interval.{headerBytes, rowBytes, mostRows, headerOf, rowsOf};
+ghost use Rattle.ledger.specs.Ledger.{ledgerHeaderBytes, accountBytes};
+ghost use Rattle.settling.specs.Settling.{resultHeaderBytes, resultRowBytes, settling};
 ghost use Rattle.listing.specs.Npalist.{rowLines, resultBuffer, openingListed, intervalListed, blockListed};
 ghost use Rattle.listing.specs.Room.{refusedRoom, rowRoom, blockRoom, blockResult};
 
@@ -41,12 +43,12 @@ fn clear(buffer: &mut [u8])
 
 // Writes the lines of the rows of a settled file.
 fn put_row_lines(out: &mut [u8], at: usize, file: &[u8], result: &[u8]) -> usize
-    requires { ⌜ 40 ≤ length (now file) ⌝ }
-    requires { ⌜ headerOf (now file) .rowsOffset + 56 * headerOf (now file) .rowCount ≤ length (now file) ⌝ }
-    requires { ⌜ 64 + 64 * headerOf (now file) .rowCount ≤ length (now result) ⌝ }
+    requires { ⌜ headerBytes ≤ length (now file) ⌝ }
+    requires { ⌜ headerOf (now file) .rowsOffset + rowBytes * headerOf (now file) .rowCount ≤ length (now file) ⌝ }
+    requires { ⌜ resultHeaderBytes + resultRowBytes * headerOf (now file) .rowCount ≤ length (now result) ⌝ }
     requires { ⌜ at + rowRoom * headerOf (now file) .rowCount ≤ length (now out) ⌝ }
-    ensures { λ _. ⌜ now (out .exit) ≡ placedAt at (rowLines (headerOf (now (file .entry)) .interval) (rowsOf (now (file .entry))) (drop 64 (now (result .entry)))) (now (out .entry)) ⌝ }
-    ensures { λ r. ⌜ r ≡ at + length (rowLines (headerOf (now (file .entry)) .interval) (rowsOf (now (file .entry))) (drop 64 (now (result .entry)))) ⌝ }
+    ensures { λ _. ⌜ now (out .exit) ≡ placedAt at (rowLines (headerOf (now (file .entry)) .interval) (rowsOf (now (file .entry))) (drop resultHeaderBytes (now (result .entry)))) (now (out .entry)) ⌝ }
+    ensures { λ r. ⌜ r ≡ at + length (rowLines (headerOf (now (file .entry)) .interval) (rowsOf (now (file .entry))) (drop resultHeaderBytes (now (result .entry)))) ⌝ }
     ensures { λ r. ⌜ r ≤ at + rowRoom * headerOf (now (file .entry)) .rowCount ⌝ }
 {
     let interval = word(file, INTERVAL);
@@ -76,7 +78,7 @@ fn list_interval(
     result: &mut [u8],
     out: &mut [u8],
 ) -> usize
-    requires { ⌜ length (now result) ≡ 64 + 64 * 512 ⌝ }
+    requires { ⌜ length (now result) ≡ resultHeaderBytes + resultRowBytes * mostRows ⌝ }
     requires { ⌜ blockRoom ≤ length (now out) ⌝ }
     ensures { λ _. ⌜ now (result .exit) ≡ settling (now (ledger .entry)) (now (file .entry)) resultBuffer .result ⌝ }
     ensures { λ _. ⌜ now (ledger .exit) ≡ intervalListed number (now (ledger .entry)) (now (file .entry)) .ledger ⌝ }
@@ -95,7 +97,7 @@ fn list_interval(
 
 // Opens a ledger in a buffer of zeros, and writes its refusal, if any.
 fn list_opening(block: &[u8], ledger: &mut [u8], out: &mut [u8]) -> Listed
-    requires { ⌜ length (now ledger) ≡ 64 + 32 * 512 ⌝ }
+    requires { ⌜ length (now ledger) ≡ ledgerHeaderBytes + accountBytes * mostIds ⌝ }
     requires { ⌜ refusedRoom ≤ length (now out) ⌝ }
     ensures { λ _. ⌜ now (ledger .exit) ≡ openingListed (now (block .entry)) .ledger ⌝ }
     ensures { λ _. ⌜ now (out .exit) ≡ placedAt 0 (openingListed (now (block .entry)) .printed) (now (out .entry)) ⌝ }
@@ -120,8 +122,8 @@ pub fn list_block(
     result: &mut [u8],
     out: &mut [u8],
 ) -> Listed
-    requires { ⌜ length (now ledger) ≡ 64 + 32 * 512 ⌝ }
-    requires { ⌜ length (now result) ≡ 64 + 64 * 512 ⌝ }
+    requires { ⌜ length (now ledger) ≡ ledgerHeaderBytes + accountBytes * mostIds ⌝ }
+    requires { ⌜ length (now result) ≡ resultHeaderBytes + resultRowBytes * mostRows ⌝ }
     requires { ⌜ blockRoom ≤ length (now out) ⌝ }
     ensures { λ _. ⌜ now (result .exit) ≡ blockResult number (now (ledger .entry)) (now (result .entry)) (now (block .entry)) ⌝ }
     ensures { λ _. ⌜ now (ledger .exit) ≡ blockListed number (now (ledger .entry)) (now (block .entry)) .ledger ⌝ }

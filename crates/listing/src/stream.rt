@@ -22,6 +22,10 @@ ghost use Prim.Native.Nat.{_+_, _*_, _≤_};
 ghost use lib.ListN.{length};
 ghost use lib.Dec.{eqb};
 ghost use Rattle.words.specs.Words.{placedAt};
+ghost use Rattle.reading.specs.Block.{mostIds};
+ghost use Rattle.reading.specs.Interval.{mostFileBytes, mostRows};
+ghost use Rattle.ledger.specs.Ledger.{ledgerHeaderBytes, accountBytes};
+ghost use Rattle.settling.specs.Settling.{resultHeaderBytes, resultRowBytes};
 ghost use Rattle.listing.specs.Lines.{cutLine};
 ghost use Rattle.listing.specs.Npalist.{mostBytes, bytesDue, nextListed};
 ghost use Rattle.listing.specs.Room.{cutRoom, blockRoom, nextResult};
@@ -40,7 +44,7 @@ pub const LINES_BYTES: usize = MOST_ROWS as usize * ROW_ROOM + POOL_ROOM;
 // The most bytes of a block.
 fn most_bytes(number: u64) -> usize
     ensures { λ r. ⌜ r ≡ mostBytes number ⌝ }
-    ensures { λ r. ⌜ r ≤ 49152 ⌝ }
+    ensures { λ r. ⌜ r ≤ mostFileBytes ⌝ }
 {
     if number == 0 {
         return MOST_BLOCK_BYTES;
@@ -51,7 +55,7 @@ fn most_bytes(number: u64) -> usize
 // How many bytes are due behind a length: those of its block, or none where it is cut or over the limit.
 pub fn bytes_due(number: u64, head: &[u8]) -> usize
     ensures { λ r. ⌜ r ≡ bytesDue number (now (head .entry)) ⌝ }
-    ensures { λ r. ⌜ r ≤ 49152 ⌝ }
+    ensures { λ r. ⌜ r ≤ mostFileBytes ⌝ }
 {
     if head.len() < LENGTH_BYTES {
         return 0;
@@ -102,8 +106,8 @@ pub fn list_next(
     result: &mut [u8],
     out: &mut [u8],
 ) -> Listed
-    requires { ⌜ length (now ledger) ≡ 64 + 32 * 512 ⌝ }
-    requires { ⌜ length (now result) ≡ 64 + 64 * 512 ⌝ }
+    requires { ⌜ length (now ledger) ≡ ledgerHeaderBytes + accountBytes * mostIds ⌝ }
+    requires { ⌜ length (now result) ≡ resultHeaderBytes + resultRowBytes * mostRows ⌝ }
     requires { ⌜ blockRoom ≤ length (now out) ⌝ }
     ensures { λ _. ⌜ now (result .exit) ≡ nextResult number (now (ledger .entry)) (now (result .entry)) (now (s .entry)) ⌝ }
     ensures { λ _. ⌜ now (ledger .exit) ≡ nextListed number (now (ledger .entry)) (now (s .entry)) .ledger ⌝ }

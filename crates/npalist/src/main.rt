@@ -14,6 +14,10 @@ ghost use mathlib.Core.Path.{_≡_};
 ghost use Prim.Native.Nat.{_+_, _*_, _≤_};
 ghost use lib.ListN.{length, take};
 ghost use Rattle.words.specs.Words.{placedAt};
+ghost use Rattle.reading.specs.Block.{mostIds};
+ghost use Rattle.reading.specs.Interval.{mostFileBytes, mostRows};
+ghost use Rattle.ledger.specs.Ledger.{ledgerHeaderBytes, accountBytes};
+ghost use Rattle.settling.specs.Settling.{resultHeaderBytes, resultRowBytes};
 ghost use Rattle.listing.specs.Npalist.{bytesDue, nextListed};
 ghost use Rattle.listing.specs.Room.{blockRoom, nextResult};
 
@@ -36,10 +40,10 @@ struct Step {
 // Reads a length and the block that is due behind it, none behind a length cut short, and no byte more.
 // Which bytes stand in the stream's buffer after it is not stated: the kit says of a read how many bytes come at most.
 fn read_next(number: u64, stream: &mut [u8]) -> Came
-    requires { ⌜ length (now stream) ≡ 4 + 49152 ⌝ }
+    requires { ⌜ length (now stream) ≡ 4 + mostFileBytes ⌝ }
     ensures { λ r. ⌜ r .head ≤ 4 ⌝ }
     ensures { λ r. ⌜ r .block ≤ bytesDue number (take (r .head) (now (stream .exit))) ⌝ }
-    ensures { λ r. ⌜ r .block ≤ 49152 ⌝ }
+    ensures { λ r. ⌜ r .block ≤ mostFileBytes ⌝ }
 {
     let head = io::read_full(STDIN_FILENO, &mut stream[..LENGTH_BYTES]);
     let due = bytes_due(number, &stream[..head]);
@@ -56,9 +60,9 @@ fn next_step(
     result: &mut [u8],
     out: &mut [u8],
 ) -> Step
-    requires { ⌜ length (now stream) ≡ 4 + 49152 ⌝ }
-    requires { ⌜ length (now ledger) ≡ 64 + 32 * 512 ⌝ }
-    requires { ⌜ length (now result) ≡ 64 + 64 * 512 ⌝ }
+    requires { ⌜ length (now stream) ≡ 4 + mostFileBytes ⌝ }
+    requires { ⌜ length (now ledger) ≡ ledgerHeaderBytes + accountBytes * mostIds ⌝ }
+    requires { ⌜ length (now result) ≡ resultHeaderBytes + resultRowBytes * mostRows ⌝ }
     requires { ⌜ blockRoom ≤ length (now out) ⌝ }
     ensures { λ r. ⌜ now (result .exit) ≡ nextResult number (now (ledger .entry)) (now (result .entry)) (take (r .came .head + r .came .block) (now (stream .exit))) ⌝ }
     ensures { λ r. ⌜ now (ledger .exit) ≡ nextListed number (now (ledger .entry)) (take (r .came .head + r .came .block) (now (stream .exit))) .ledger ⌝ }
@@ -88,9 +92,9 @@ fn print(out: &[u8], end: usize) -> bool
 
 // Prints the heading, then block after block, until the listing stops or the output is closed.
 fn run(stream: &mut [u8], ledger: &mut [u8], result: &mut [u8], out: &mut [u8])
-    requires { ⌜ length (now stream) ≡ 4 + 49152 ⌝ }
-    requires { ⌜ length (now ledger) ≡ 64 + 32 * 512 ⌝ }
-    requires { ⌜ length (now result) ≡ 64 + 64 * 512 ⌝ }
+    requires { ⌜ length (now stream) ≡ 4 + mostFileBytes ⌝ }
+    requires { ⌜ length (now ledger) ≡ ledgerHeaderBytes + accountBytes * mostIds ⌝ }
+    requires { ⌜ length (now result) ≡ resultHeaderBytes + resultRowBytes * mostRows ⌝ }
     requires { ⌜ blockRoom ≤ length (now out) ⌝ }
 {
     let end = put_heading(out, 0);

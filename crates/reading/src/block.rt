@@ -6,7 +6,7 @@ use words::word32;
 ghost use mathlib.Core.Path.{_≡_};
 ghost use Prim.Native.Nat.{_+_, _*_, _≤_, _<_};
 ghost use lib.ListN.{length, getD};
-ghost use Rattle.reading.specs.Block.{blockOf, notABlock, termsOutside, idsMisplaced, idsOutOfOrder};
+ghost use Rattle.reading.specs.Block.{blockHeaderBytes, idBytes, blockOf, notABlock, termsOutside, idsMisplaced, idsOutOfOrder};
 
 const HEADER_BYTES: usize = 20;
 
@@ -26,7 +26,7 @@ const ID_BYTES: usize = 4;
 
 // Net CONE, in cents per MW-day.
 pub fn net_cone(block: &[u8]) -> u64
-    requires { ⌜ 20 ≤ length (now block) ⌝ }
+    requires { ⌜ blockHeaderBytes ≤ length (now block) ⌝ }
     ensures { λ r. ⌜ r ≡ blockOf (now (block .entry)) .terms .netCone ⌝ }
 {
     word32(block, 4)
@@ -34,7 +34,7 @@ pub fn net_cone(block: &[u8]) -> u64
 
 // Days of the delivery year.
 pub fn days(block: &[u8]) -> u64
-    requires { ⌜ 20 ≤ length (now block) ⌝ }
+    requires { ⌜ blockHeaderBytes ≤ length (now block) ⌝ }
     ensures { λ r. ⌜ r ≡ blockOf (now (block .entry)) .terms .days ⌝ }
 {
     word32(block, 8)
@@ -42,7 +42,7 @@ pub fn days(block: &[u8]) -> u64
 
 // The number of ids.
 pub fn id_count(block: &[u8]) -> u64
-    requires { ⌜ 20 ≤ length (now block) ⌝ }
+    requires { ⌜ blockHeaderBytes ≤ length (now block) ⌝ }
     ensures { λ r. ⌜ r ≡ blockOf (now (block .entry)) .idCount ⌝ }
     ensures { λ r. ⌜ r < 4294967296 ⌝ }
 {
@@ -51,7 +51,7 @@ pub fn id_count(block: &[u8]) -> u64
 
 // The byte offset of the ids.
 fn ids_offset(block: &[u8]) -> u64
-    requires { ⌜ 20 ≤ length (now block) ⌝ }
+    requires { ⌜ blockHeaderBytes ≤ length (now block) ⌝ }
     ensures { λ r. ⌜ r ≡ blockOf (now (block .entry)) .idsOffset ⌝ }
     ensures { λ r. ⌜ r < 4294967296 ⌝ }
 {
@@ -60,9 +60,9 @@ fn ids_offset(block: &[u8]) -> u64
 
 // The id at an index.
 pub fn id_at(block: &[u8], i: usize) -> u64
-    requires { ⌜ 20 ≤ length (now block) ⌝ }
+    requires { ⌜ blockHeaderBytes ≤ length (now block) ⌝ }
     requires { ⌜ i < blockOf (now block) .idCount ⌝ }
-    requires { ⌜ blockOf (now block) .idsOffset + 4 * blockOf (now block) .idCount ≤ length (now block) ⌝ }
+    requires { ⌜ blockOf (now block) .idsOffset + idBytes * blockOf (now block) .idCount ≤ length (now block) ⌝ }
     ensures { λ r. ⌜ r ≡ getD (blockOf (now (block .entry)) .ids) i 0 ⌝ }
 {
     word32(block, ids_offset(block) as usize + ID_BYTES * i)
@@ -93,7 +93,7 @@ pub fn terms_outside(cone: u64, days: u64) -> bool
 
 // Ground 3.
 pub fn ids_misplaced(block: &[u8]) -> bool
-    requires { ⌜ 20 ≤ length (now block) ⌝ }
+    requires { ⌜ blockHeaderBytes ≤ length (now block) ⌝ }
     ensures { λ r. ⌜ r ≡ idsMisplaced (now (block .entry)) ⌝ }
 {
     let count = id_count(block);
@@ -113,8 +113,8 @@ pub fn ids_misplaced(block: &[u8]) -> bool
 
 // Ground 4, of ids that lie within the block.
 pub fn ids_out_of_order(block: &[u8]) -> bool
-    requires { ⌜ 20 ≤ length (now block) ⌝ }
-    requires { ⌜ blockOf (now block) .idsOffset + 4 * blockOf (now block) .idCount ≤ length (now block) ⌝ }
+    requires { ⌜ blockHeaderBytes ≤ length (now block) ⌝ }
+    requires { ⌜ blockOf (now block) .idsOffset + idBytes * blockOf (now block) .idCount ≤ length (now block) ⌝ }
     ensures { λ r. ⌜ r ≡ idsOutOfOrder (blockOf (now (block .entry)) .ids) ⌝ }
 {
     let count = id_count(block) as usize;

@@ -14,7 +14,7 @@ ghost use lib.Signed.{mag};
 ghost use Rattle.words.specs.Lists.{any};
 ghost use Rattle.words.specs.Words.{word32 as wordOf, signed as signedOf};
 ghost use Rattle.words.specs.Grounds.{beyond as beyondOf, overlap};
-ghost use Rattle.reading.specs.Interval.{headerOf, pointOf, rowAt, curveAt, rowOf, notAFile, headerOutside, tablesMisplaced, rowOutside, pointOutside, falls as fallsOf, curveMisplaced, pointRefused, scanned};
+ghost use Rattle.reading.specs.Interval.{headerBytes, rowBytes, pointBytes, mostKilowatts, headerOf, pointOf, rowAt, curveAt, rowOf, notAFile, headerOutside, tablesMisplaced, rowOutside, pointOutside, falls as fallsOf, curveMisplaced, pointRefused, scanned};
 
 const HEADER_BYTES: usize = 40;
 
@@ -204,8 +204,8 @@ pub fn tables_misplaced(file: &[u8]) -> bool
 
 // Whether a word of a row that counts kW, and is not signed, is too high.
 fn kilowatts_outside(row: &[u8]) -> bool
-    requires { ⌜ 56 ≤ length (now row) ⌝ }
-    ensures { λ r. ⌜ r ≡ any (λ kw. ltb 4000000 kw) (map (wordOf (now (row .entry))) (2 ∷ 3 ∷ 6 ∷ 7 ∷ 8 ∷ 9 ∷ [])) ⌝ }
+    requires { ⌜ rowBytes ≤ length (now row) ⌝ }
+    ensures { λ r. ⌜ r ≡ any (λ kw. ltb mostKilowatts kw) (map (wordOf (now (row .entry))) (2 ∷ 3 ∷ 6 ∷ 7 ∷ 8 ∷ 9 ∷ [])) ⌝ }
 {
     if MOST_KILOWATTS < word(row, COMMITTED) {
         return true;
@@ -227,7 +227,7 @@ fn kilowatts_outside(row: &[u8]) -> bool
 
 // Ground 13, of the row at the front of a part of a file.
 pub fn row_outside(row: &[u8]) -> bool
-    requires { ⌜ 56 ≤ length (now row) ⌝ }
+    requires { ⌜ rowBytes ≤ length (now row) ⌝ }
     ensures { λ r. ⌜ r ≡ rowOutside (rowAt (now (row .entry)) []) ⌝ }
 {
     let kind = word(row, KIND);
@@ -260,7 +260,7 @@ pub fn row_outside(row: &[u8]) -> bool
 
 // Whether the points of the row at the front of a part of a file are too many, or reach beyond the table.
 fn curve_misplaced(row: &[u8], points: u64) -> bool
-    requires { ⌜ 56 ≤ length (now row) ⌝ }
+    requires { ⌜ rowBytes ≤ length (now row) ⌝ }
     ensures { λ r. ⌜ r ≡ curveMisplaced points (rowAt (now (row .entry)) []) ⌝ }
 {
     let count = word(row, POINT_COUNT);
@@ -276,7 +276,7 @@ fn curve_misplaced(row: &[u8], points: u64) -> bool
 
 // Whether the point at the front of a part of a file is out of range.
 fn point_outside(point: &[u8]) -> bool
-    requires { ⌜ 8 ≤ length (now point) ⌝ }
+    requires { ⌜ pointBytes ≤ length (now point) ⌝ }
     ensures { λ r. ⌜ r ≡ pointOutside (pointOf (now (point .entry))) ⌝ }
 {
     if beyond(word(point, PRICE), MOST_PRICE) {
@@ -287,8 +287,8 @@ fn point_outside(point: &[u8]) -> bool
 
 // Whether the price or the kW falls from the point at the front of one part of a file to that of another.
 fn falls(point: &[u8], next: &[u8]) -> bool
-    requires { ⌜ 8 ≤ length (now point) ⌝ }
-    requires { ⌜ 8 ≤ length (now next) ⌝ }
+    requires { ⌜ pointBytes ≤ length (now point) ⌝ }
+    requires { ⌜ pointBytes ≤ length (now next) ⌝ }
     ensures { λ r. ⌜ r ≡ fallsOf (pointOf (now (point .entry)) ∷ pointOf (now (next .entry)) ∷ []) ⌝ }
 {
     if signed_word(next, PRICE) < signed_word(point, PRICE) {
@@ -299,7 +299,7 @@ fn falls(point: &[u8], next: &[u8]) -> bool
 
 // Whether point j of a curve is out of range, or falls from the one before it.
 fn point_refused(curve: &[u8], j: usize) -> bool
-    requires { ⌜ 8 * j + 8 ≤ length (now curve) ⌝ }
+    requires { ⌜ 8 * j + pointBytes ≤ length (now curve) ⌝ }
     ensures { λ r. ⌜ r ≡ pointRefused (now (curve .entry)) j ⌝ }
 {
     if point_outside(&curve[POINT_BYTES * j..]) {
@@ -313,9 +313,9 @@ fn point_refused(curve: &[u8], j: usize) -> bool
 
 // Grounds 13 and 14, of tables that lie within the file: all rows are tested for 13 before any for 14.
 pub fn scan(file: &[u8]) -> u32
-    requires { ⌜ 40 ≤ length (now file) ⌝ }
-    requires { ⌜ headerOf (now file) .rowsOffset + 56 * headerOf (now file) .rowCount ≤ length (now file) ⌝ }
-    requires { ⌜ headerOf (now file) .pointsOffset + 8 * headerOf (now file) .pointCount ≤ length (now file) ⌝ }
+    requires { ⌜ headerBytes ≤ length (now file) ⌝ }
+    requires { ⌜ headerOf (now file) .rowsOffset + rowBytes * headerOf (now file) .rowCount ≤ length (now file) ⌝ }
+    requires { ⌜ headerOf (now file) .pointsOffset + pointBytes * headerOf (now file) .pointCount ≤ length (now file) ⌝ }
     ensures { λ r. ⌜ r ≡ scanned (now (file .entry)) ⌝ }
 {
     let rows = word(file, ROWS) as usize;
@@ -355,11 +355,11 @@ pub fn scan(file: &[u8]) -> u32
 
 // Where the points of the row at the front of a part of a file begin. Of a row without points, whose first point is free, that is the file's end.
 pub fn curve_at(file: &[u8], row: &[u8]) -> usize
-    requires { ⌜ 40 ≤ length (now file) ⌝ }
-    requires { ⌜ 56 ≤ length (now row) ⌝ }
-    requires { ⌜ (0 < wordOf (now row) 13 → headerOf (now file) .pointsOffset + 8 * (wordOf (now row) 12 + wordOf (now row) 13) ≤ length (now file)) ⌝ }
+    requires { ⌜ headerBytes ≤ length (now file) ⌝ }
+    requires { ⌜ rowBytes ≤ length (now row) ⌝ }
+    requires { ⌜ (0 < wordOf (now row) 13 → headerOf (now file) .pointsOffset + pointBytes * (wordOf (now row) 12 + wordOf (now row) 13) ≤ length (now file)) ⌝ }
     ensures { λ r. ⌜ rowAt (now (row .entry)) (drop r (now (file .entry))) ≡ rowOf (now (file .entry)) (now (row .entry)) ⌝ }
-    ensures { λ r. ⌜ r + 8 * wordOf (now (row .entry)) 13 ≤ length (now (file .entry)) ⌝ }
+    ensures { λ r. ⌜ r + pointBytes * wordOf (now (row .entry)) 13 ≤ length (now (file .entry)) ⌝ }
     ensures { λ r. ⌜ r ≡ curveAt (now (file .entry)) (now (row .entry)) ⌝ }
 {
     if word(row, POINT_COUNT) == 0 {

@@ -32,8 +32,8 @@ ghost use Rattle.words.specs.Words.{written};
 ghost use Rattle.words.specs.Grounds.{answered};
 ghost use Rattle.reading.specs.Interval.{headerOf, rowsOf};
 ghost use Rattle.assessment.specs.Assessment.{numerator, denominator, charges, pool, credit, carriedOn};
-ghost use Rattle.ledger.specs.Ledger.{ledgerWords};
-ghost use Rattle.settling.specs.Settling.{assessedFile, rowWords, resultWords, settledLedger, settlingGrounds, settling as settlingOf};
+ghost use Rattle.ledger.specs.Ledger.{mostCents, ledgerWords};
+ghost use Rattle.settling.specs.Settling.{resultHeaderBytes, resultRowBytes, assessedFile, rowWords, resultWords, settledLedger, settlingGrounds, settling as settlingOf};
 ghost use Rattle.settling.specs.Scratch.{Passed, chargedWords};
 
 const MILLIONTHS: u64 = 1000000;
@@ -73,7 +73,7 @@ fn assess(ledger: &[u8], file: &[u8], rows: &mut [u64]) -> Charged
 fn write_ledger(ledger: &mut [u8], file: &[u8], rows: &[u64], rest: Cents)
     requires { ⌜ Passed (now ledger) (now file) ⌝ }
     requires { ⌜ now rows ≡ rowWords (credit (assessedFile (now ledger) (now file))) (assessedFile (now ledger) (now file) .rows) ⌝ }
-    requires { ⌜ ((k : ℕ) → getD (now rows) k 0 ≤ 1099511627775) ⌝ }
+    requires { ⌜ ((k : ℕ) → getD (now rows) k 0 ≤ mostCents) ⌝ }
     requires { ⌜ rest .0 ≡ carriedOn (assessedFile (now ledger) (now file)) ⌝ }
     ensures { λ _. ⌜ now (ledger .exit) ≡ written (ledgerWords (settledLedger (now (ledger .entry)) (now (file .entry)))) (now (ledger .entry)) ⌝ }
 {
@@ -95,13 +95,13 @@ fn write_settled(
     cents: Cents,
 )
     requires { ⌜ Passed (now ledger) (now file) ⌝ }
-    requires { ⌜ 64 + 64 * headerOf (now file) .rowCount ≤ length (now result) ⌝ }
+    requires { ⌜ resultHeaderBytes + resultRowBytes * headerOf (now file) .rowCount ≤ length (now result) ⌝ }
     requires { ⌜ now rows ≡ chargedWords (assessedFile (now ledger) (now file) .rows) ⌝ }
     requires { ⌜ sums .numerator .0 ≡ numerator (headerOf (now file)) (rowsOf (now file)) ⌝ }
     requires { ⌜ sums .denominator .0 ≡ denominator (rowsOf (now file)) ⌝ }
     requires { ⌜ sums .charges .0 ≡ charges (assessedFile (now ledger) (now file)) ⌝ }
     requires { ⌜ cents .0 ≡ pool (assessedFile (now ledger) (now file)) ⌝ }
-    requires { ⌜ cents .0 ≤ 1099511627775 ⌝ }
+    requires { ⌜ cents .0 ≤ mostCents ⌝ }
     ensures { λ _. ⌜ now (ledger .exit) ≡ written (ledgerWords (settledLedger (now (ledger .entry)) (now (file .entry)))) (now (ledger .entry)) ⌝ }
     ensures { λ _. ⌜ now (result .exit) ≡ written (resultWords (assessedFile (now (ledger .entry)) (now (file .entry)))) (now (result .entry)) ⌝ }
 {

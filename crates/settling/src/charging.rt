@@ -22,19 +22,20 @@ ghost use mathlib.Core.Path.{_≡_};
 ghost use mathlib.Core.List.{[]};
 ghost use Prim.Native.Nat.{_*_, _≤_, _^_};
 ghost use lib.ListN.{length};
-ghost use Rattle.reading.specs.Interval.{headerOf, rowAt, rowsOf};
+ghost use Rattle.reading.specs.Block.{mostNetCone, leapYear};
+ghost use Rattle.reading.specs.Interval.{rowBytes, mostKilowatts, headerOf, rowAt, rowsOf};
 ghost use Rattle.assessment.specs.Assessment.{numerator as numeratorOf, denominator as denominatorOf, raised as raisedBy, charge as chargeOf};
 ghost use Rattle.settling.specs.Settling.{assessedFile};
 ghost use Rattle.settling.specs.Scratch.{Passed, chargedWords};
 
 // What a row is charged for a shortfall: it first raises its account, and the limit is taken after that.
 fn row_charge(cone: u64, days: u64, a: Account, row: &[u8], short: Kilowatts) -> Cents
-    requires { ⌜ cone ≤ 200000 ⌝ }
-    requires { ⌜ days ≤ 366 ⌝ }
-    requires { ⌜ 56 ≤ length (now row) ⌝ }
-    requires { ⌜ a .largest .0 ≤ 4000000 ⌝ }
-    requires { ⌜ rowAt (now row) [] .committed ≤ 4000000 ⌝ }
-    requires { ⌜ short .0 ≤ 4000000 ⌝ }
+    requires { ⌜ cone ≤ mostNetCone ⌝ }
+    requires { ⌜ days ≤ leapYear ⌝ }
+    requires { ⌜ rowBytes ≤ length (now row) ⌝ }
+    requires { ⌜ a .largest .0 ≤ mostKilowatts ⌝ }
+    requires { ⌜ rowAt (now row) [] .committed ≤ mostKilowatts ⌝ }
+    requires { ⌜ short .0 ≤ mostKilowatts ⌝ }
     ensures { λ r.
         ⌜ r .0 ≡ chargeOf (record { netCone = cone; days = days }) (raisedBy (rowAt (now (row .entry)) []) (record { id = a .id; largest = a .largest .0; charged = a .charged .0; credited = a .credited .0 })) (short .0) ⌝ }
 {

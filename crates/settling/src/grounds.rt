@@ -25,8 +25,8 @@ ghost use Prim.Native.Nat.{_+_, _*_, _≤_};
 ghost use lib.ListN.{length, take};
 ghost use Rattle.words.specs.Grounds.{answered};
 ghost use Rattle.reading.specs.Block.{idsOutOfOrder};
-ghost use Rattle.reading.specs.Interval.{headerOf, rowsOf};
-ghost use Rattle.ledger.specs.Ledger.{ledgerOf, ledgerBytes, accountCount, idsIn};
+ghost use Rattle.reading.specs.Interval.{headerBytes, rowBytes, headerOf, rowsOf};
+ghost use Rattle.ledger.specs.Ledger.{ledgerHeaderBytes, ledgerOf, ledgerBytes, accountCount, idsIn};
 ghost use Rattle.settling.specs.Settling.{otherTerms, rowIdsUnknown, settlingGrounds};
 
 pub const RESULT_HEADER_BYTES: usize = 64;
@@ -35,8 +35,8 @@ pub const RESULT_ROW_BYTES: usize = 64;
 
 // Ground 8.
 fn other_terms(ledger: &[u8], file: &[u8]) -> bool
-    requires { ⌜ 64 ≤ length (now ledger) ⌝ }
-    requires { ⌜ 40 ≤ length (now file) ⌝ }
+    requires { ⌜ ledgerHeaderBytes ≤ length (now ledger) ⌝ }
+    requires { ⌜ headerBytes ≤ length (now file) ⌝ }
     ensures { λ r. ⌜ r ≡ otherTerms (now (ledger .entry)) (now (file .entry)) ⌝ }
 {
     if word(file, NET_CONE) != ledger_word(ledger, LEDGER_NET_CONE) {
@@ -49,8 +49,8 @@ fn other_terms(ledger: &[u8], file: &[u8]) -> bool
 fn row_ids_unknown(ledger: &[u8], file: &[u8]) -> bool
     requires { ⌜ ledgerBytes (accountCount (now ledger)) ≤ length (now ledger) ⌝ }
     requires { ⌜ idsOutOfOrder (idsIn (ledgerOf (now ledger))) ≡ false ⌝ }
-    requires { ⌜ 40 ≤ length (now file) ⌝ }
-    requires { ⌜ headerOf (now file) .rowsOffset + 56 * headerOf (now file) .rowCount ≤ length (now file) ⌝ }
+    requires { ⌜ headerBytes ≤ length (now file) ⌝ }
+    requires { ⌜ headerOf (now file) .rowsOffset + rowBytes * headerOf (now file) .rowCount ≤ length (now file) ⌝ }
     ensures { λ r. ⌜ r ≡ rowIdsUnknown (ledgerOf (now (ledger .entry))) (rowsOf (now (file .entry))) ⌝ }
 {
     let accounts = ledger_word(ledger, ACCOUNTS) as usize;

@@ -27,17 +27,17 @@ ghost use Prim.Native.Nat.{ℕ, _+_, _*_, _≤_, _<_, _^_};
 ghost use lib.ListN.{length, drop, getD};
 ghost use lib.Dec.{ltb, eqb};
 ghost use Rattle.words.specs.Words.{written, writtenAt};
-ghost use Rattle.reading.specs.Interval.{headerOf, rowAt};
+ghost use Rattle.reading.specs.Interval.{headerBytes, rowBytes, headerOf, rowAt};
 ghost use Rattle.assessment.specs.Assessment.{raised as raisedBy, credit};
-ghost use Rattle.ledger.specs.Ledger.{accountWords, ledgerOf};
-ghost use Rattle.settling.specs.Settling.{rowWords, assessedFile, postedAll};
+ghost use Rattle.ledger.specs.Ledger.{ledgerHeaderBytes, accountBytes, mostCents, accountWords, ledgerOf};
+ghost use Rattle.settling.specs.Settling.{resultHeaderBytes, rowWords, assessedFile, postedAll};
 ghost use Rattle.settling.specs.Scratch.{Passed};
 
 // Whether a file has a row i, and its id is this one.
 fn meets(file: &[u8], i: usize, id: u64) -> bool
-    requires { ⌜ 40 ≤ length (now file) ⌝ }
-    requires { ⌜ headerOf (now file) .rowsOffset + 56 * headerOf (now file) .rowCount ≤ length (now file) ⌝ }
-    ensures { λ r. ⌜ r ≡ (ltb i (headerOf (now (file .entry)) .rowCount) && eqb (rowAt (drop (headerOf (now (file .entry)) .rowsOffset + 56 * i) (now (file .entry))) [] .id) id) ⌝ }
+    requires { ⌜ headerBytes ≤ length (now file) ⌝ }
+    requires { ⌜ headerOf (now file) .rowsOffset + rowBytes * headerOf (now file) .rowCount ≤ length (now file) ⌝ }
+    ensures { λ r. ⌜ r ≡ (ltb i (headerOf (now (file .entry)) .rowCount) && eqb (rowAt (drop (headerOf (now (file .entry)) .rowsOffset + rowBytes * i) (now (file .entry))) [] .id) id) ⌝ }
 {
     if word(file, ROWS) as usize <= i {
         return false;
@@ -48,8 +48,8 @@ fn meets(file: &[u8], i: usize, id: u64) -> bool
 
 // Posts a row to its account at a byte offset: raised, with the row's charge and credit added.
 fn post_row(ledger: &mut [u8], at: usize, a: Account, row: &[u8], charge: Cents, credit: Cents)
-    requires { ⌜ at + 32 ≤ length (now ledger) ⌝ }
-    requires { ⌜ 56 ≤ length (now row) ⌝ }
+    requires { ⌜ at + accountBytes ≤ length (now ledger) ⌝ }
+    requires { ⌜ rowBytes ≤ length (now row) ⌝ }
     requires { ⌜ a .charged .0 + charge .0 < 2 ^ 64 ⌝ }
     requires { ⌜ a .credited .0 + credit .0 < 2 ^ 64 ⌝ }
     ensures { λ _.
@@ -69,10 +69,10 @@ fn post_row(ledger: &mut [u8], at: usize, a: Account, row: &[u8], charge: Cents,
 pub fn post_rows(ledger: &mut [u8], file: &[u8], rows: &[u64])
     requires { ⌜ Passed (now ledger) (now file) ⌝ }
     requires { ⌜ now rows ≡ rowWords (credit (assessedFile (now ledger) (now file))) (assessedFile (now ledger) (now file) .rows) ⌝ }
-    requires { ⌜ ((k : ℕ) → getD (now rows) k 0 ≤ 1099511627775) ⌝ }
+    requires { ⌜ ((k : ℕ) → getD (now rows) k 0 ≤ mostCents) ⌝ }
     ensures { λ _.
         let v = assessedFile (now (ledger .entry)) (now (file .entry)) in
-        ⌜ now (ledger .exit) ≡ writtenAt 64 (accountWords (map (postedAll v (v .rows)) (ledgerOf (now (ledger .entry)) .accounts))) (now (ledger .entry)) ⌝ }
+        ⌜ now (ledger .exit) ≡ writtenAt ledgerHeaderBytes (accountWords (map (postedAll v (v .rows)) (ledgerOf (now (ledger .entry)) .accounts))) (now (ledger .entry)) ⌝ }
 {
     let accounts = ledger_word(ledger, ACCOUNTS) as usize;
     let first = word(file, ROWS_OFFSET) as usize;
@@ -111,7 +111,7 @@ pub fn write_result(
     denominator: Kilowatts,
     count: u64,
 )
-    requires { ⌜ 64 + 8 * length (now rows) ≤ length (now result) ⌝ }
+    requires { ⌜ resultHeaderBytes + 8 * length (now rows) ≤ length (now result) ⌝ }
     ensures { λ _. ⌜ now (result .exit) ≡ written (ratio ∷ charges .0 ∷ credits .0 ∷ carried .0 ∷ bonus .0 ∷ numerator .0 ∷ denominator .0 ∷ count ∷ now (rows .entry)) (now (result .entry)) ⌝ }
 {
     let words = [
