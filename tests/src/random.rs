@@ -4,10 +4,12 @@
 //! side of a boundary, so that a damaged case may still be one to accept.
 
 mod damage;
+mod event;
 mod world;
 mod years;
 
-pub use self::world::{rising, valid_open, valid_settle, World};
+pub use self::event::event_file;
+pub use self::world::{rising, some_of, valid_open, valid_settle, World};
 pub use self::years::{stream, year, RunningYear, Year};
 
 pub(crate) use self::damage::{damage_settle, damaged_open};

@@ -187,7 +187,7 @@ fn at_the_limits() -> Vec<u8> {
 }
 
 /// Files of the full year's first intervals, so many.
-pub fn full_files(count: u32) -> Vec<Vec<u8>> {
+fn full_files(count: u32) -> Vec<Vec<u8>> {
     let world = World::full();
     let mut rng = Rng::new(1);
     let mut file = |interval| world.full_file(&mut rng, interval, ROW_POINTS).bytes();

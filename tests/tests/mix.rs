@@ -1,12 +1,15 @@
 //! Random calls: no panic, nothing written on refusal, and a wide mix.
 
-use npa_tests::layout::{ledger_bytes, long_at, result_bytes, word_at, POINTS_MOST, ROW_BYTES};
+use npa_tests::layout::{
+    ledger_bytes, long_at, result_bytes, word_at, Ledger, POINTS_MOST, ROW_BYTES,
+};
+use npa_tests::listing::{DAYS, NET_CONE};
 use npa_tests::random::{
-    first_made, long_open, long_settle, open_call, settle_call, stream, OpenCall, Rng, RunningYear,
-    SettleCall, Size, FULL, MIDDLE, SMALL,
+    event_file, first_made, long_open, long_settle, open_call, rising, settle_call, stream,
+    OpenCall, Rng, RunningYear, SettleCall, Size, FULL, MIDDLE, SMALL,
 };
 use npa_tests::reference::{npalist, open, settle, HEADING};
-use std::collections::BTreeMap;
+use std::collections::{BTreeMap, BTreeSet};
 
 /// Opens and checks which bytes changed; the answer.
 fn checked_open(call: &OpenCall) -> u32 {
@@ -174,6 +177,52 @@ fn accepted_small_cases_show_every_rule() {
     }
     assert_eq!(counts.len(), 33, "{counts:?}");
     assert!(counts.values().all(|count| *count >= 15), "{counts:?}");
+}
+
+#[test]
+fn events_of_every_size_are_accepted_and_show_the_usual() {
+    let usual = [
+        "kind 0",
+        "kind 1",
+        "kind 2",
+        "kind 3",
+        "kind 4",
+        "ratio inside",
+        "imports counted",
+        "PRD considered",
+        "PRD not considered",
+        "economic",
+        "bonus of kind 0",
+        "bonus of kind 4",
+    ];
+    let mut rng = Rng::new(10);
+    for (rows, files) in [(1, 2_000), (8, 300), (64, 60), (512, 12)] {
+        let ids = rising(rows);
+        let mut ledger = Ledger::new(NET_CONE, DAYS, &ids).bytes();
+        let mut seen = BTreeSet::new();
+        for interval in 0..files {
+            let mut call = SettleCall {
+                file: event_file(&mut rng, interval, &ids, 4).bytes(),
+                result: vec![0; result_bytes(rows)],
+                ledger,
+            };
+            let (ground, result) = checked_settle(&call);
+            assert_eq!(ground, 0);
+            seen.extend(features(&call, &result));
+            settle(&mut call.ledger, &call.file, &mut call.result);
+            ledger = call.ledger;
+        }
+        let missing: Vec<_> = usual.iter().filter(|name| !seen.contains(*name)).collect();
+        assert!(missing.is_empty(), "{rows} rows: no {missing:?}");
+        let account = |index| 8 + 4 * index;
+        let word = |at| long_at(&ledger, at).unwrap();
+        let sum = |of: usize| {
+            (0..rows)
+                .map(|index| word(account(index) + of))
+                .sum::<u64>()
+        };
+        assert!(sum(2) > 0 && sum(3) > 0, "charged and credited");
+    }
 }
 
 #[test]

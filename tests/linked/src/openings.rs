@@ -295,6 +295,7 @@ fn any_words(rng: &mut Rng) -> OpenCall {
 #[cfg(test)]
 mod tests {
     use super::*;
+    use crate::compare::Comparison;
 
     /// The reference's answer.
     fn answer(case: &OpenCase) -> u32 {
@@ -323,5 +324,16 @@ mod tests {
         for length in (0..=64).chain(4093..=4097) {
             assert!(calls.iter().any(|call| call.read.len() == length));
         }
+    }
+
+    #[test]
+    fn the_ordinary_program_gives_the_same() {
+        let ordinary = Pair {
+            module: |block, [ledger]| npa_ordinary::open(block, ledger),
+            ..PAIR
+        };
+        let mut comparison = Comparison::new(ordinary);
+        assert_eq!(comparison.compare_all(&CALLS, 1, 2_000), Ok(()));
+        assert!(comparison.counts(1).is_ok());
     }
 }

@@ -210,11 +210,23 @@ fn answer(case: &SettleCase) -> u32 {
 #[cfg(test)]
 mod tests {
     use super::*;
+    use crate::compare::Comparison;
 
     #[test]
     fn the_base_cases_are_accepted() {
         assert_eq!(answer(&listing()), 0);
         assert_eq!(answer(&plain(1, 1)), 0);
         assert_eq!(answer(&plain(512, 512)), 0);
+    }
+
+    #[test]
+    fn the_ordinary_program_gives_the_same() {
+        let ordinary = Pair {
+            module: |file, [ledger, result]| npa_ordinary::settle(ledger, file, result),
+            ..PAIR
+        };
+        let mut comparison = Comparison::new(ordinary);
+        assert_eq!(comparison.compare_all(&CALLS, 1, 2_000), Ok(()));
+        assert!(comparison.counts(1).is_ok());
     }
 }

@@ -377,7 +377,7 @@ fn rising_ids(rng: &mut Rng, count: usize) -> Vec<u32> {
 }
 
 /// So many of the ids, in order.
-fn some_of(rng: &mut Rng, ids: &[u32], count: usize) -> Vec<u32> {
+pub fn some_of(rng: &mut Rng, ids: &[u32], count: usize) -> Vec<u32> {
     let mut chosen = Vec::new();
     for (index, id) in ids.iter().enumerate() {
         let left = (ids.len() - index) as u64;

@@ -1,0 +1,137 @@
+//! The rules of one interval, in kW.
+
+use crate::file::{Header, Point, Row, DEMAND, EFFICIENCY, ENERGY_ONLY, GENERATION, PRD};
+
+/// The kW figures of a row; a row that is not considered has zeros.
+#[derive(Default)]
+pub struct Figures {
+    pub expected: u64,
+    pub actual: u64,
+    pub outage: u64,
+    pub economic: u64,
+    pub shortfall: u64,
+    pub bonus: u64,
+}
+
+pub struct Ratio {
+    pub numerator: u64,
+    pub denominator: u64,
+}
+
+impl Ratio {
+    /// Of all rows, with the imports of a region-wide event.
+    pub fn of(header: &Header, rows: &[Row], curves: &[&[Point]]) -> Self {
+        let mut ratio = Ratio {
+            numerator: 0,
+            denominator: 0,
+        };
+        if header.region_wide == 1 {
+            ratio.numerator += header.imports.max(0) as u64;
+        }
+        for (row, curve) in rows.iter().zip(curves) {
+            let above = actual(row).saturating_sub(row.committed);
+            match row.kind {
+                GENERATION => {
+                    ratio.numerator += actual(row);
+                    ratio.denominator += row.committed;
+                }
+                ENERGY_ONLY => ratio.numerator += actual(row),
+                DEMAND => ratio.numerator += above,
+                PRD if considered(row, curve) => ratio.numerator += above,
+                _ => (),
+            }
+        }
+        ratio
+    }
+
+    /// So much by the ratio, rounded down, never more; 0 without a denominator.
+    pub fn portion(&self, whole: u64) -> u64 {
+        if self.denominator == 0 {
+            return 0;
+        }
+        (whole * self.numerator / self.denominator).min(whole)
+    }
+}
+
+/// All kW figures of a row.
+pub fn figures(row: &Row, curve: &[Point], ratio: &Ratio) -> Figures {
+    match row.kind {
+        GENERATION => generator(row, curve, ratio.portion(row.committed)),
+        ENERGY_ONLY => generator(row, curve, 0),
+        DEMAND | EFFICIENCY => reduction(row),
+        _ if considered(row, curve) => reduction(row),
+        _ => Figures::default(),
+    }
+}
+
+/// Kinds 0 and 4.
+fn generator(row: &Row, curve: &[Point], expected: u64) -> Figures {
+    let actual = actual(row);
+    let outage = row.planned;
+    let scheduled = scheduled(row, curve);
+    let available = row.owned.saturating_sub(row.planned + row.forced);
+    let able = row.maximum.min(expected).min(available);
+    let economic = able.saturating_sub(scheduled.max(actual));
+    Figures {
+        expected,
+        actual,
+        outage,
+        economic,
+        shortfall: expected.saturating_sub(actual + outage + economic),
+        bonus: actual.min(scheduled).saturating_sub(expected),
+    }
+}
+
+/// Kinds 1 to 3.
+fn reduction(row: &Row) -> Figures {
+    let expected = row.committed;
+    let actual = actual(row);
+    Figures {
+        expected,
+        actual,
+        shortfall: expected.saturating_sub(actual),
+        bonus: actual.saturating_sub(expected),
+        ..Figures::default()
+    }
+}
+
+fn actual(row: &Row) -> u64 {
+    (row.metered + row.adjustment).max(0) as u64
+}
+
+/// The points priced at or below the LMP.
+fn reached<'a>(row: &Row, curve: &'a [Point]) -> &'a [Point] {
+    &curve[..curve.partition_point(|point| point.price <= row.lmp)]
+}
+
+/// Whether the last point that the LMP reaches has kW, which a PRD row needs to count.
+fn considered(row: &Row, curve: &[Point]) -> bool {
+    reached(row, curve).last().is_some_and(|point| point.kw > 0)
+}
+
+/// The kW that the curve schedules at the LMP.
+fn scheduled(row: &Row, curve: &[Point]) -> u64 {
+    let Some(last) = curve.last() else {
+        return row.committed;
+    };
+    if row.lmp > last.price {
+        return row.maximum;
+    }
+    let least = if row.online == 1 { row.minimum } else { 0 };
+    let reached = reached(row, curve);
+    let Some(low) = reached.last() else {
+        return least;
+    };
+    let kw = match curve.get(reached.len()) {
+        Some(high) => low.kw + along(low, high, row.lmp),
+        None => low.kw,
+    };
+    kw.max(least).min(row.maximum)
+}
+
+/// The kW from one point towards the next, in proportion to price.
+fn along(low: &Point, high: &Point, lmp: i64) -> u64 {
+    let step = (lmp - low.price) as u64;
+    let span = (high.price - low.price) as u64;
+    (high.kw - low.kw) * step / span
+}

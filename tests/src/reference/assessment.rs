@@ -1,0 +1,160 @@
+//! The rules of one interval in kW, up to the shortfall and the bonus of each row.
+
+use super::curve::{considered, scheduled};
+use super::file::{points_of, Head, Point, Row};
+use super::file::{DEMAND, EFFICIENCY, ENERGY_ONLY, GENERATION, PRD};
+use super::Whole;
+
+/// The figures of one row before money; all 0 for a row not considered.
+#[derive(Clone, Default)]
+pub struct Figures {
+    pub expected: Whole,
+    pub actual: Whole,
+    pub outage: Whole,
+    pub economic: Whole,
+    pub shortfall: Whole,
+    pub bonus: Whole,
+}
+
+/// The figures of an interval before money.
+pub struct Assessment {
+    /// In millionths.
+    pub ratio: Whole,
+    pub numerator: Whole,
+    pub denominator: Whole,
+    pub rows: Vec<Figures>,
+}
+
+/// Kinds 0 and 4 have outage, economic excusal and a bonus cut by the schedule.
+fn is_generator(row: &Row) -> bool {
+    row.kind == GENERATION || row.kind == ENERGY_ONLY
+}
+
+/// Metered plus adjustment, never below 0.
+fn actual(row: &Row) -> Whole {
+    (row.metered + row.adjustment).max(0)
+}
+
+/// The kW expected of kinds 1 to 4, which no ratio touches.
+fn expected_fixed(row: &Row) -> Whole {
+    match row.kind {
+        DEMAND | EFFICIENCY | PRD => row.committed,
+        _ => 0,
+    }
+}
+
+/// So much by the ratio: rounded down once, never above it, and 0 if the denominator is 0.
+fn by_ratio(most: Whole, numerator: Whole, denominator: Whole) -> Whole {
+    if denominator == 0 {
+        return 0;
+    }
+    (most * numerator / denominator).min(most)
+}
+
+/// The kW above the expected; a generator earns none above its schedule.
+fn bonus(row: &Row, points: &[Point], expected: Whole) -> Whole {
+    let counted = if is_generator(row) {
+        actual(row).min(scheduled(row, points))
+    } else {
+        actual(row)
+    };
+    (counted - expected).max(0)
+}
+
+/// What one row adds to the numerator.
+fn numerator_share(row: &Row, points: &[Point]) -> Whole {
+    match row.kind {
+        GENERATION | ENERGY_ONLY => actual(row),
+        DEMAND | PRD if considered(row, points) => bonus(row, points, expected_fixed(row)),
+        _ => 0,
+    }
+}
+
+/// What the imports add to the numerator.
+fn imports_share(head: &Head) -> Whole {
+    if head.region_wide == 1 {
+        head.imports.max(0)
+    } else {
+        0
+    }
+}
+
+/// What one row adds to the denominator.
+fn denominator_share(row: &Row) -> Whole {
+    if row.kind == GENERATION {
+        row.committed
+    } else {
+        0
+    }
+}
+
+/// The planned or maintenance outage that excuses a generator.
+fn outage(row: &Row) -> Whole {
+    if is_generator(row) {
+        row.planned
+    } else {
+        0
+    }
+}
+
+/// The kW a generator could have given but was not scheduled for.
+fn economic(row: &Row, points: &[Point], expected: Whole) -> Whole {
+    if !is_generator(row) {
+        return 0;
+    }
+    let available = (row.owned - row.planned - row.forced).max(0);
+    let able = row.maximum.min(expected).min(available);
+    (able - scheduled(row, points).max(actual(row))).max(0)
+}
+
+/// The kW missing after all excusals.
+fn shortfall(expected: Whole, actual: Whole, outage: Whole, economic: Whole) -> Whole {
+    (expected - actual - outage - economic).max(0)
+}
+
+/// All kW figures of one row.
+fn figures(row: &Row, points: &[Point], numerator: Whole, denominator: Whole) -> Figures {
+    if !considered(row, points) {
+        return Figures::default();
+    }
+    let expected = if row.kind == GENERATION {
+        by_ratio(row.committed, numerator, denominator)
+    } else {
+        expected_fixed(row)
+    };
+    let actual = actual(row);
+    let outage = outage(row);
+    let economic = economic(row, points, expected);
+    Figures {
+        expected,
+        actual,
+        outage,
+        economic,
+        shortfall: shortfall(expected, actual, outage, economic),
+        bonus: bonus(row, points, expected),
+    }
+}
+
+/// All kW figures of the interval.
+pub fn assess(head: &Head, rows: &[Row], table: &[Point]) -> Assessment {
+    let shares: Whole = rows
+        .iter()
+        .map(|row| numerator_share(row, points_of(row, table)))
+        .sum();
+    let numerator = shares + imports_share(head);
+    let denominator = rows.iter().map(denominator_share).sum();
+    Assessment {
+        ratio: by_ratio(1_000_000, numerator, denominator),
+        numerator,
+        denominator,
+        rows: rows
+            .iter()
+            .map(|row| figures(row, points_of(row, table), numerator, denominator))
+            .collect(),
+    }
+}
+
+/// The bonus kW of all rows.
+pub fn total_bonus(assessment: &Assessment) -> Whole {
+    assessment.rows.iter().map(|figures| figures.bonus).sum()
+}
