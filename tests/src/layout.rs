@@ -20,6 +20,9 @@ pub const ROWS_MOST: usize = 512;
 pub const POINTS_MOST: usize = 2048;
 pub const ROW_POINTS_MOST: usize = 10;
 
+/// The largest Net CONE, in cents per MW-day.
+pub const NET_CONE_MOST: u32 = 200_000;
+
 /// The largest kW of a row, price and imports; where signed, also the least with its sign turned.
 pub const KW_MOST: u32 = 4_000_000;
 pub const PRICE_MOST: i32 = 1_000_000;

@@ -15,15 +15,15 @@ mod settling;
 mod terms;
 mod words;
 
-pub use self::listing::{npalist, HEADING};
+pub use self::listing::{npalist, Listing, HEADING};
 pub use self::opening::open;
-pub use self::settling::settle;
+pub use self::settling::{pool, settle};
 
 /// A whole number; no figure of the module comes near its ends.
-type Whole = i128;
+pub type Whole = i128;
 
 /// What was asked for, or a refusal number.
-type Checked<T> = Result<T, u32>;
+pub type Checked<T> = Result<T, u32>;
 
 /// Answers the ground if the fault is there.
 fn refuse_if(fault: bool, ground: u32) -> Checked<()> {

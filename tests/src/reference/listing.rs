@@ -42,34 +42,93 @@ fn next_block(rest: &[u8], most: usize) -> Next<'_> {
 /// What `npalist` prints for a whole standard input.
 pub fn npalist(input: &[u8]) -> Vec<u8> {
     let mut out = String::from(HEADING);
-    let mut ledger = vec![0; ledger_bytes(IDS_MOST) as usize];
-    match next_block(input, BLOCK_MOST) {
-        Next::End | Next::Cut => print_cut(&mut out, 0),
-        Next::TooLong => print_refusal(&mut out, 0, 1),
-        Next::Block(block, rest) => match open(block, &mut ledger) {
-            0 => list_intervals(rest, &mut ledger, &mut out),
-            ground => print_refusal(&mut out, 0, ground),
-        },
-    }
-    out.into_bytes()
-}
-
-/// Settles and prints the blocks after the opening, to the end or a stop.
-fn list_intervals(mut rest: &[u8], ledger: &mut [u8], out: &mut String) {
-    let mut result = vec![0; result_bytes(ROWS_MOST) as usize];
-    for number in 1u64.. {
-        match next_block(rest, FILE_MOST) {
-            Next::End => return,
-            Next::Cut => return print_cut(out, number),
-            Next::TooLong => return print_refusal(out, number, 7),
-            Next::Block(file, after) => {
-                match settle(ledger, file, &mut result) {
-                    0 => print_interval(out, file, &result),
-                    ground => print_refusal(out, number, ground),
+    let mut listing = Listing::default();
+    let mut rest = input;
+    loop {
+        match next_block(rest, listing.most()) {
+            Next::End if listing.number > 0 => break,
+            Next::End | Next::Cut => {
+                listing.cut(&mut out);
+                break;
+            }
+            Next::TooLong => {
+                listing.too_long(&mut out);
+                break;
+            }
+            Next::Block(block, after) => {
+                let first = listing.number == 0;
+                if listing.block(block, &mut out) != 0 && first {
+                    break;
                 }
                 rest = after;
             }
         }
+    }
+    out.into_bytes()
+}
+
+/// A listing under way: the number of the block that comes next, and the ledger that those before it left.
+pub struct Listing {
+    number: u64,
+    ledger: Vec<u8>,
+    result: Vec<u8>,
+}
+
+impl Default for Listing {
+    fn default() -> Self {
+        Listing {
+            number: 0,
+            ledger: vec![0; ledger_bytes(IDS_MOST) as usize],
+            result: vec![0; result_bytes(ROWS_MOST) as usize],
+        }
+    }
+}
+
+impl Listing {
+    /// The number of the next block.
+    pub fn number(&self) -> u64 {
+        self.number
+    }
+
+    /// The most bytes that it may have.
+    pub fn most(&self) -> usize {
+        match self.number {
+            0 => BLOCK_MOST,
+            _ => FILE_MOST,
+        }
+    }
+
+    /// The ledger so far; zeros before the opening.
+    pub fn ledger(&self) -> &[u8] {
+        &self.ledger
+    }
+
+    /// Opens or settles the next block and prints its lines; answers 0 or the ground of refusal.
+    pub fn block(&mut self, block: &[u8], out: &mut String) -> u32 {
+        let number = self.number;
+        self.number += 1;
+        let answer = match number {
+            0 => open(block, &mut self.ledger),
+            _ => settle(&mut self.ledger, block, &mut self.result),
+        };
+        match answer {
+            0 if number == 0 => (),
+            0 => print_interval(out, block, &self.result),
+            ground => print_refusal(out, number, ground),
+        }
+        answer
+    }
+
+    /// Prints the line of a next block that has too many bytes; answers its ground.
+    pub fn too_long(&self, out: &mut String) -> u32 {
+        let ground = if self.number == 0 { 1 } else { 7 };
+        print_refusal(out, self.number, ground);
+        ground
+    }
+
+    /// Prints the line of a next block that is not all there.
+    pub fn cut(&self, out: &mut String) {
+        print_cut(out, self.number);
     }
 }
 

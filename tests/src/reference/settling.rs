@@ -28,8 +28,29 @@ pub fn settle(ledger: &mut [u8], file: &[u8], result: &mut [u8]) -> u32 {
     }
 }
 
-/// Grounds 6 to 16, in order, and the figures.
-fn work_out(ledger: &[u8], file: &[u8], room: usize) -> Checked<Settlement> {
+/// A file that no ground up to 15 refuses, charged to the accounts.
+struct Charged {
+    interval: Whole,
+    rows: Vec<Row>,
+    ledger: Ledger,
+    assessment: Assessment,
+    charges: Vec<Whole>,
+}
+
+impl Charged {
+    /// The cents carried plus the charges.
+    fn pool(&self) -> Whole {
+        self.ledger.carried + self.charges.iter().sum::<Whole>()
+    }
+}
+
+/// The pool that a file makes, unless a ground before 16 refuses it.
+pub fn pool(ledger: &[u8], file: &[u8]) -> Checked<Whole> {
+    charged(ledger, file, usize::MAX).map(|charged| charged.pool())
+}
+
+/// Grounds 6 to 15, in order, and the charges.
+fn charged(ledger: &[u8], file: &[u8], room: usize) -> Checked<Charged> {
     let mut ledger = read_ledger(ledger)?;
     refuse_if(!file_holds(file), 7)?;
     let head = read_head(file);
@@ -45,11 +66,30 @@ fn work_out(ledger: &[u8], file: &[u8], room: usize) -> Checked<Settlement> {
     refuse_if((room as Whole) < result_bytes(head.rows), 15)?;
     let assessment = assess(&head, &rows, &table);
     let charges = charge_rows(&mut ledger, &rows, &assessment);
-    let pool = ledger.carried + charges.iter().sum::<Whole>();
+    Ok(Charged {
+        interval: head.interval,
+        rows,
+        ledger,
+        assessment,
+        charges,
+    })
+}
+
+/// Grounds 6 to 16, in order, and the figures.
+fn work_out(ledger: &[u8], file: &[u8], room: usize) -> Checked<Settlement> {
+    let charged = charged(ledger, file, room)?;
+    let pool = charged.pool();
     refuse_if(pool > POOL_MOST, 16)?;
+    let Charged {
+        interval,
+        rows,
+        mut ledger,
+        assessment,
+        charges,
+    } = charged;
     let credits = credit_rows(&mut ledger, &rows, &assessment, pool);
     ledger.carried = pool - credits.iter().sum::<Whole>();
-    ledger.earliest = head.interval + 1;
+    ledger.earliest = interval + 1;
     Ok(Settlement {
         ledger,
         assessment,
