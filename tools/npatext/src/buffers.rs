@@ -1,6 +1,6 @@
 //! Ledgers and results as text, to read.
 
-use npa_tests::layout::long_at;
+use npa_tests::layout::{long_at, result_bytes};
 
 const LEDGER: [&str; 8] = [
     "format",
@@ -44,8 +44,36 @@ pub struct Shown {
     pub fault: Option<String>,
 }
 
+/// The most rows of a result.
+const ROWS_MOST: u64 = npa_tests::layout::ROWS_MOST as u64;
+
+/// Nothing shown, since the buffer is something else.
+fn other(fault: &str) -> Shown {
+    Shown {
+        text: String::new(),
+        fault: Some(fault.to_string()),
+    }
+}
+
+/// Whether bytes have the fixed words of a ledger; a result has no 0 as its number of rows.
+fn is_ledger(bytes: &[u8]) -> bool {
+    [(0, 1), (6, ACCOUNTS_AT), (7, 0)]
+        .iter()
+        .all(|(word, value)| long_at(bytes, *word) == Some(*value))
+}
+
+/// Whether bytes have all rows of a result where a ledger has two fixed words.
+fn is_result(bytes: &[u8]) -> bool {
+    let rows = long_at(bytes, 7).filter(|rows| (1..=ROWS_MOST).contains(rows));
+    long_at(bytes, 6) != Some(ACCOUNTS_AT)
+        && rows.is_some_and(|rows| bytes.len() >= result_bytes(rows as usize))
+}
+
 /// A ledger shown.
 pub fn show_ledger(bytes: &[u8]) -> Shown {
+    if is_result(bytes) {
+        return other("it is a result, not a ledger; npatext result shows it");
+    }
     let mut shown = show_words(bytes, ("ledger", &LEDGER), 5, ("account", &ACCOUNT));
     let begin = long_at(bytes, 6).filter(|at| *at != ACCOUNTS_AT);
     if let Some(at) = begin {
@@ -57,10 +85,13 @@ pub fn show_ledger(bytes: &[u8]) -> Shown {
 
 /// A result shown.
 pub fn show_result(bytes: &[u8]) -> Shown {
+    if is_ledger(bytes) {
+        return other("it is a ledger, not a result; npatext ledger shows it");
+    }
     show_words(bytes, ("result", &INTERVAL), 7, ("row", &ROW))
 }
 
-/// A line for the first eight words, of which one counts the entries, and a line for each entry behind them.
+/// A line for the first eight words, of which one counts the entries, and a line for each entry after them.
 fn show_words(
     bytes: &[u8],
     first: (&str, &[&str]),
@@ -93,7 +124,7 @@ fn show_words(
     }
     let rest = length - 8 * word;
     if rest > 0 {
-        text += &format!("# {rest} bytes behind them\n");
+        text += &format!("# {rest} bytes after them\n");
     }
     Shown { text, fault }
 }

@@ -1,5 +1,5 @@
-//! OUTSIDE THE PROOFS: streams for npalist as readable text, both ways, and
-//! ledgers and results shown. README.md beside this folder describes the text.
+//! OUTSIDE THE PROOFS: streams for npalist as readable text, both ways, ledgers and results shown, and the faults of
+//! streams and listings in words. README.md beside this folder describes the text.
 #![forbid(unsafe_code)]
 
 mod buffers;
@@ -7,8 +7,15 @@ mod line;
 mod make;
 mod names;
 mod show;
+mod source;
 
 pub use buffers::{show_ledger, show_result, Shown};
 pub use line::{text_of, Fault};
 pub use make::make;
 pub use show::show;
+pub use source::Source;
+
+/// The version of the tree.
+pub fn version() -> &'static str {
+    include_str!("../../../VERSION").trim_end()
+}

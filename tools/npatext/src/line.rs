@@ -1,5 +1,6 @@
 //! One line of text: a keyword, words, named fields; and what is wrong with it.
 
+use crate::source::{is_wide, seen, MARK};
 use std::{fmt, str};
 
 /// What is wrong with a text, and where.
@@ -14,22 +15,37 @@ impl fmt::Display for Fault {
     fn fmt(&self, to: &mut fmt::Formatter) -> fmt::Result {
         write!(to, "line {}", self.line)?;
         if let Some(field) = &self.field {
-            write!(to, ", field {field}")?;
+            write!(to, ", field {}", seen(field))?;
         }
-        write!(to, ": {}", self.what)
+        write!(to, ": {}", seen(&self.what))
     }
 }
 
-/// The text that bytes are; a fault names the line of the first that is not UTF-8.
+/// The text that bytes are; a fault names the line of the first that is not UTF-8, or what is there instead of text.
 pub fn text_of(bytes: &[u8]) -> Result<&str, Fault> {
-    str::from_utf8(bytes).map_err(|error| {
-        let at = error.valid_up_to();
+    let fault = |at: usize, what: String| {
         let above = bytes[..at].iter().filter(|byte| **byte == b'\n').count();
         Fault {
             line: above + 1,
             field: None,
-            what: format!("byte {:02x} is not UTF-8", bytes[at]),
+            what,
         }
+    };
+    if bytes.starts_with(MARK) {
+        let what = "begins with a byte order mark (ef bb bf); save the text as UTF-8 without it";
+        return Err(fault(0, what.to_string()));
+    }
+    if is_wide(bytes) {
+        let what = "begins with a byte order mark of UTF-16; save the text as UTF-8 without one";
+        return Err(fault(0, what.to_string()));
+    }
+    if let Some(at) = bytes.iter().position(|byte| *byte == 0) {
+        let what = "has a byte of 0, so it is no text; npatext show gives the text of a stream";
+        return Err(fault(at, what.to_string()));
+    }
+    str::from_utf8(bytes).map_err(|error| {
+        let at = error.valid_up_to();
+        fault(at, format!("byte {:02x} is not UTF-8", bytes[at]))
     })
 }
 
@@ -44,7 +60,20 @@ pub struct Line<'a> {
 impl<'a> Line<'a> {
     /// Takes a line apart; nothing if it is empty or a comment.
     pub fn split(number: usize, text: &'a str) -> Result<Option<Self>, Fault> {
+        let whole = |what: &str| Fault {
+            line: number,
+            field: None,
+            what: what.to_string(),
+        };
+        if text.contains('\r') {
+            return Err(whole(
+                "has a carriage return within it; lines end in a newline",
+            ));
+        }
         let text = text.split('#').next().unwrap_or("");
+        if text.contains('\u{feff}') {
+            return Err(whole("has a byte order mark (U+FEFF), which is not seen"));
+        }
         let mut parts = text.split_whitespace();
         let Some(keyword) = parts.next() else {
             return Ok(None);

@@ -1,67 +1,147 @@
 //! OUTSIDE THE PROOFS: a plain Rust tool. It makes streams for npalist from
-//! readable text and shows streams, ledgers and results as text; it settles nothing.
+//! readable text, shows streams, ledgers and results as text.
 
-use npatext::{make, show, show_ledger, show_result, text_of, Shown};
-use std::io::{self, Read, Write};
+use npatext::{make, show, show_ledger, show_result, text_of, version, Shown, Source};
+use std::env;
+use std::ffi::OsString;
+use std::io::{self, BufWriter, ErrorKind, StdoutLock, Write};
+use std::path::Path;
 use std::process::ExitCode;
-use std::{env, fs};
 
-const USAGE: &str = "usage: npatext COMMAND [FILE], standard input without FILE
-  make    text to a stream for npalist
-  show    a stream to text, from which make gives the same bytes
-  ledger  a ledger to text
-  result  a result to text";
+const USAGE: &str = "\
+usage: npatext COMMAND FILES
+  make [TEXT]                 text to a stream for npalist
+  show [STREAM]               a stream to text, from which make gives the same bytes
+  ledger [LEDGER]             a ledger to text
+  result [RESULT]             a result to text
+  --help                      this text
+  --version                   the version
+A file named - is standard input, and so is one in [] that is left out.
+The status is 0; it is 1 if something is wrong, which is said: on standard error.
+";
 
-/// The bytes of the file, or of standard input.
-fn input(path: Option<&String>) -> Result<Vec<u8>, String> {
-    let Some(path) = path else {
-        let mut bytes = Vec::new();
-        let read = io::stdin().read_to_end(&mut bytes);
-        return read.map(|_| bytes).map_err(|error| error.to_string());
-    };
-    fs::read(path).map_err(|error| format!("{path}: {error}"))
+/// Why a command ends with status 1.
+enum Trouble {
+    /// To be said on standard error.
+    Said(String),
+    /// Already said, or nobody reads on.
+    Known,
 }
 
-/// The stream that a text describes.
-fn made(text: &[u8]) -> Result<Vec<u8>, String> {
-    let stream = text_of(text).and_then(make);
-    stream.map_err(|fault| fault.to_string())
+impl From<String> for Trouble {
+    fn from(what: String) -> Self {
+        Trouble::Said(what)
+    }
+}
+
+type Done = Result<(), Trouble>;
+
+/// Standard output; a reader that goes away is no fault to be told.
+struct Out(BufWriter<StdoutLock<'static>>);
+
+impl Out {
+    fn new() -> Self {
+        Out(BufWriter::new(io::stdout().lock()))
+    }
+
+    fn write(&mut self, bytes: &[u8]) -> Done {
+        Self::told(self.0.write_all(bytes))
+    }
+
+    fn line(&mut self, line: &str) -> Done {
+        Self::told(writeln!(self.0, "{line}"))
+    }
+
+    fn end(mut self) -> Done {
+        Self::told(self.0.flush())
+    }
+
+    fn told(written: io::Result<()>) -> Done {
+        written.map_err(|error| match error.kind() {
+            ErrorKind::BrokenPipe => Trouble::Known,
+            _ => Trouble::Said(format!("standard output: {error}")),
+        })
+    }
 }
 
 /// Writes to standard output.
-fn write(bytes: &[u8]) -> Result<(), String> {
-    let mut out = io::stdout().lock();
-    let written = out.write_all(bytes).and_then(|()| out.flush());
-    written.map_err(|error| error.to_string())
+fn write(bytes: &[u8]) -> Done {
+    let mut out = Out::new();
+    out.write(bytes)?;
+    out.end()
 }
 
-/// Writes what is shown of a buffer, and fails if something is wrong with it.
-fn tell(Shown { text, fault }: Shown) -> Result<(), String> {
+/// The stream that a text describes.
+fn make_command(path: &Path) -> Done {
+    let source = Source::open(path)?;
+    let name = source.name.clone();
+    let text = source.all()?;
+    let stream = text_of(&text).and_then(make);
+    let stream = stream.map_err(|fault| format!("{name}: {fault}"))?;
+    write(&stream)
+}
+
+/// The text of a stream.
+fn show_command(path: &Path) -> Done {
+    let stream = Source::of_bytes(path, "stream")?;
+    write(show(&stream.all()?).as_bytes())
+}
+
+/// The text of a ledger or result as far as it reaches, and what is wrong with it.
+fn buffer_command(path: &Path, what: &str, show: fn(&[u8]) -> Shown) -> Done {
+    let source = Source::of_bytes(path, what)?;
+    let name = source.name.clone();
+    let Shown { text, fault } = show(&source.all()?);
     write(text.as_bytes())?;
-    fault.map_or(Ok(()), Err)
+    match fault {
+        Some(fault) => Err(Trouble::Said(format!("{name}: {fault}"))),
+        None => Ok(()),
+    }
 }
 
-fn run(arguments: &[String]) -> Result<(), String> {
-    let (command, path) = match arguments {
-        [command] => (command, None),
-        [command, path] => (command, Some(path)),
-        _ => return Err(USAGE.to_string()),
+/// What a command takes, for the one who gave it something else.
+fn takes(command: &str) -> Option<&'static str> {
+    USAGE
+        .lines()
+        .map(str::trim)
+        .find_map(|line| line.strip_prefix(command)?.strip_prefix(' '))
+        .and_then(|line| line.split("  ").next())
+}
+
+fn run(arguments: &[OsString]) -> Done {
+    let words: Vec<String> = arguments
+        .iter()
+        .map(|word| word.to_string_lossy().to_string())
+        .collect();
+    let Some(command) = words.first().map(String::as_str) else {
+        return Err(Trouble::Said(USAGE.trim_end().to_string()));
     };
-    match command.as_str() {
-        "make" => write(&made(&input(path)?)?),
-        "show" => write(show(&input(path)?).as_bytes()),
-        "ledger" => tell(show_ledger(&input(path)?)),
-        "result" => tell(show_result(&input(path)?)),
-        _ => Err(USAGE.to_string()),
+    let files: Vec<&Path> = arguments[1..].iter().map(Path::new).collect();
+    if words.iter().any(|word| word == "--help" || word == "-h") {
+        return write(USAGE.as_bytes());
+    }
+    let one = files.first().copied().unwrap_or(Path::new("-"));
+    match (command, &files[..]) {
+        ("--version", []) => write(format!("npatext {}\n", version()).as_bytes()),
+        ("make", [] | [_]) => make_command(one),
+        ("show", [] | [_]) => show_command(one),
+        ("ledger", [] | [_]) => buffer_command(one, "ledger", show_ledger),
+        ("result", [] | [_]) => buffer_command(one, "result", show_result),
+        _ => Err(Trouble::Said(match takes(command) {
+            Some(takes) => format!("usage: npatext {command} {takes}"),
+            None => format!("npatext has no command `{command}`; npatext --help shows all"),
+        })),
     }
 }
 
 fn main() -> ExitCode {
-    let arguments: Vec<String> = env::args().skip(1).collect();
+    let arguments: Vec<OsString> = env::args_os().skip(1).collect();
     match run(&arguments) {
         Ok(()) => ExitCode::SUCCESS,
-        Err(what) => {
-            eprintln!("{what}");
+        Err(trouble) => {
+            if let Trouble::Said(what) = trouble {
+                eprintln!("{what}");
+            }
             ExitCode::FAILURE
         }
     }

@@ -301,9 +301,8 @@ fn row(line: &mut Line, block: Option<&mut Block>) -> Result<(), Fault> {
     let mut words = [0; 14];
     let ids = line.word("id")?;
     let ids = id_list(line, "id", ids)?;
-    if let Some(kind) = line.take("kind") {
-        words[1] = kind_of(line, kind)?;
-    }
+    let kind = line.need("kind")?;
+    words[1] = kind_of(line, kind)?;
     for (index, name, sign) in ROW_WORDS {
         let word = match sign {
             Sign::Signed => line.take_signed(name)?,

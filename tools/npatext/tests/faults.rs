@@ -1,9 +1,10 @@
 //! A fault of a text names its line and field.
 
+mod common;
+
+use common::npatext;
 use npa_tests::random::{self, Rng, SMALL};
 use npatext::{make, show, show_ledger, show_result, text_of, Shown};
-use std::io::Write;
-use std::process::{Command, Stdio};
 
 const OPENING: &str = "opening net_cone=1 days=365 ids=1";
 
@@ -18,11 +19,11 @@ fn faults_name_line_and_field() {
     let signed = "is not a number from -2147483648 to 2147483647";
     let cases = [
         (
-            "row 1 metered=x",
+            "row 1 kind=0 metered=x",
             format!("line 4, field metered: `x` {signed}"),
         ),
         (
-            "row 1 lmp=2147483648",
+            "row 1 kind=0 lmp=2147483648",
             format!("line 4, field lmp: `2147483648` {signed}"),
         ),
         (
@@ -31,14 +32,18 @@ fn faults_name_line_and_field() {
         ),
         ("row", "line 4, field id: is missing".to_string()),
         (
-            "row 1 colour=3",
+            "row 1 committed=5",
+            "line 4, field kind: is missing".to_string(),
+        ),
+        (
+            "row 1 kind=0 colour=3",
             "line 4, field colour: is no field of `row`".to_string(),
         ),
         (
             "row 1 lmp=3 lmp=3",
             "line 4, field lmp: is given twice".to_string(),
         ),
-        ("row 1 2", "line 4: `2` is too much for `row`".to_string()),
+        ("row 1 2 kind=0", "line 4: `2` is too much for `row`".to_string()),
         (
             "row 1 kind=wind",
             "line 4, field kind: `wind` is none of generation, demand, efficiency, prd, energy_only, \
@@ -54,15 +59,15 @@ fn faults_name_line_and_field() {
             "line 4: `=5` has no name; a field is name=value, without blanks".to_string(),
         ),
         (
-            "row 1 curve=10",
+            "row 1 kind=0 curve=10",
             "line 4, field curve: `10` is not a price, a colon and kW".to_string(),
         ),
         (
-            "row 1 curve=1:2 first=3",
+            "row 1 kind=0 curve=1:2 first=3",
             "line 4, field first: is given beside `curve`, which says it".to_string(),
         ),
         (
-            "row 1 curve=1:2 points=3",
+            "row 1 kind=0 curve=1:2 points=3",
             "line 4, field points: is given beside `curve`, which says it".to_string(),
         ),
         ("points", "line 4, field points: is missing".to_string()),
@@ -101,6 +106,18 @@ fn faults_name_line_and_field() {
             "line 5: `row` needs an interval above it".to_string(),
         ),
         ("file 3", "line 4: `file` begins no line".to_string()),
+        (
+            "\u{feff}row 1 kind=0",
+            "line 4: has a byte order mark (U+FEFF), which is not seen".to_string(),
+        ),
+        (
+            "ro\u{200b}w 1",
+            "line 4: `ro\\u{200b}w` begins no line".to_string(),
+        ),
+        (
+            "# a comment\rrow 1 kind=0",
+            "line 4: has a carriage return within it; lines end in a newline".to_string(),
+        ),
     ];
     for (line, fault) in cases {
         assert_eq!(said(line), fault);
@@ -118,6 +135,18 @@ fn a_byte_that_is_no_text_has_its_line() {
     for (bytes, fault) in [
         (&b"block\nraw \xff0\n"[..], "line 2: byte ff is not UTF-8"),
         (b"\xc3", "line 1: byte c3 is not UTF-8"),
+        (
+            b"\xef\xbb\xbfblock\n",
+            "line 1: begins with a byte order mark (ef bb bf); save the text as UTF-8 without it",
+        ),
+        (
+            b"\xff\xfeb\0l\0",
+            "line 1: begins with a byte order mark of UTF-16; save the text as UTF-8 without one",
+        ),
+        (
+            b"block\n\0",
+            "line 2: has a byte of 0, so it is no text; npatext show gives the text of a stream",
+        ),
     ] {
         assert_eq!(text_of(bytes).unwrap_err().to_string(), fault);
     }
@@ -155,7 +184,7 @@ const ACCOUNT: &str = "account 1 id=11 commitment=12 charged=13 credited=14";
 #[test]
 fn ledgers_and_results_are_shown() {
     let ledger = bytes_of(&[1, 30000, 365, 1001, 1, 1, 8, 0, 11, 12, 13, 14, 15]);
-    let text = format!("{LEDGER} accounts_at=8 zero=0\n{ACCOUNT}\n# 8 bytes behind them\n");
+    let text = format!("{LEDGER} accounts_at=8 zero=0\n{ACCOUNT}\n# 8 bytes after them\n");
     let fault = None;
     assert_eq!(show_ledger(&ledger), Shown { text, fault });
     let result = bytes_of(&[1, 2, 3, 4, 5, 6, 7, 1, 8, 9, 10, 11, 12, 13, 14, 15]);
@@ -167,28 +196,12 @@ row 1 expected=8 actual=9 outage=10 economic=11 shortfall=12 bonus=13 charge=14 
     assert_eq!(show_result(&result), Shown { text, fault });
 }
 
-/// What `npatext COMMAND` writes for an input, the error, and its status.
-fn run(command: &str, input: &[u8]) -> (String, String, Option<i32>) {
-    let mut child = Command::new(env!("CARGO_BIN_EXE_npatext"))
-        .arg(command)
-        .stdin(Stdio::piped())
-        .stdout(Stdio::piped())
-        .stderr(Stdio::piped())
-        .spawn()
-        .expect("npatext runs");
-    let mut stdin = child.stdin.take().expect("its input is a pipe");
-    stdin.write_all(input).expect("npatext reads its input");
-    drop(stdin);
-    let output = child.wait_with_output().expect("npatext ends");
-    let text = |bytes| String::from_utf8(bytes).expect("npatext writes text");
-    let status = output.status.code();
-    (text(output.stdout), text(output.stderr), status)
-}
-
 /// What is wrong with a buffer or text is said, and the status is 1; the words that are there are shown.
 #[test]
 fn what_is_wrong_is_said() {
     let short = bytes_of(&[1, 30000, 365, 1001, 1, 2, 8, 0, 11, 12, 13, 14, 15]);
+    let whole = bytes_of(&[1, 30000, 365, 1001, 1, 1, 8, 0, 11, 12, 13, 14]);
+    let result = bytes_of(&[1, 2, 3, 4, 5, 6, 7, 1, 8, 9, 10, 11, 12, 13, 14, 15]);
     let elsewhere = bytes_of(&[1, 30000, 365, 1001, 1, 1, 9, 0, 11, 12, 13, 14]);
     let cases = [
         (
@@ -201,7 +214,7 @@ fn what_is_wrong_is_said() {
             "ledger",
             &short,
             format!(
-                "{} accounts_at=8 zero=0\n{ACCOUNT}\n# 8 bytes behind them\n",
+                "{} accounts_at=8 zero=0\n{ACCOUNT}\n# 8 bytes after them\n",
                 LEDGER.replace("accounts=1", "accounts=2")
             ),
             "104 bytes are too few for a ledger of 2 accounts",
@@ -219,6 +232,18 @@ fn what_is_wrong_is_said() {
             "0 bytes are too few for a result",
         ),
         (
+            "result",
+            &whole,
+            String::new(),
+            "it is a ledger, not a result; npatext ledger shows it",
+        ),
+        (
+            "ledger",
+            &result,
+            String::new(),
+            "it is a result, not a ledger; npatext result shows it",
+        ),
+        (
             "make",
             b"block\nraw \xff\n",
             String::new(),
@@ -226,12 +251,18 @@ fn what_is_wrong_is_said() {
         ),
     ];
     for (command, input, shown, fault) in cases {
-        let wanted = (shown, format!("{fault}\n"), Some(1));
-        assert_eq!(run(command, input), wanted, "{fault}");
+        let run = npatext(&[command], input);
+        let error = format!("standard input: {fault}\n");
+        assert_eq!((run.text(), &run.error), (shown, &error));
+        assert_eq!(run.status, Some(1), "{fault}");
     }
-    let (text, error, status) = run("make", b"length 258\n");
-    assert_eq!(
-        (&text[..], &error[..], status),
-        ("\u{2}\u{1}\0\0", "", Some(0))
-    );
+    let run = npatext(&["make"], b"length 258\n");
+    run.writes("\u{2}\u{1}\0\0");
+}
+
+/// Windows line endings make the same stream.
+#[test]
+fn carriage_returns_before_newlines_are_nothing() {
+    let text = format!("{OPENING}\n# a comment\n\ninterval 0\nrow 1 kind=demand curve=1:2\n");
+    assert_eq!(make(&text.replace('\n', "\r\n")), make(&text));
 }
