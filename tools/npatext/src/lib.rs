@@ -3,17 +3,23 @@
 #![forbid(unsafe_code)]
 
 mod buffers;
+mod examine;
 mod line;
 mod make;
 mod names;
 mod show;
 mod source;
+mod walk;
+mod why;
+mod words;
 
 pub use buffers::{show_ledger, show_result, Shown};
 pub use line::{text_of, Fault};
 pub use make::make;
 pub use show::show;
 pub use source::Source;
+pub use why::{Said, Why};
+pub use words::many;
 
 /// The version of the tree.
 pub fn version() -> &'static str {

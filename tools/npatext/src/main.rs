@@ -1,7 +1,7 @@
 //! OUTSIDE THE PROOFS: a plain Rust tool. It makes streams for npalist from
-//! readable text, shows streams, ledgers and results as text.
+//! readable text, shows streams, ledgers and results as text, and finds faults.
 
-use npatext::{make, show, show_ledger, show_result, text_of, version, Shown, Source};
+use npatext::{make, many, show, show_ledger, show_result, text_of, version, Shown, Source, Why};
 use std::env;
 use std::ffi::OsString;
 use std::io::{self, BufWriter, ErrorKind, StdoutLock, Write};
@@ -14,10 +14,12 @@ usage: npatext COMMAND FILES
   show [STREAM]               a stream to text, from which make gives the same bytes
   ledger [LEDGER]             a ledger to text
   result [RESULT]             a result to text
+  why [STREAM]                every fault of a stream in words
   --help                      this text
   --version                   the version
 A file named - is standard input, and so is one in [] that is left out.
-The status is 0; it is 1 if something is wrong, which is said: on standard error.
+The status is 0; it is 1 if something is wrong, which is said: faults that why finds on standard output, everything
+else on standard error.
 ";
 
 /// Why a command ends with status 1.
@@ -99,6 +101,34 @@ fn buffer_command(path: &Path, what: &str, show: fn(&[u8]) -> Shown) -> Done {
     }
 }
 
+/// Every fault of a stream, then how many there are.
+fn why_command(path: &Path) -> Done {
+    let mut why = Why::new(Source::of_bytes(path, "stream")?);
+    let mut out = Out::new();
+    let (mut blocks, mut faulty, mut faults) = (0, 0, 0);
+    while let Some(said) = why.block()? {
+        blocks += 1;
+        faulty += u64::from(said.faults > 0);
+        faults += said.faults;
+        for line in &said.lines {
+            out.line(line)?;
+        }
+    }
+    let blocks = many(blocks, "block");
+    match faults {
+        0 => {
+            out.line(&format!("no faults in {blocks}"))?;
+            out.end()
+        }
+        _ => {
+            let faults = many(faults, "fault");
+            out.line(&format!("{faults} in {faulty} of {blocks}"))?;
+            out.end()?;
+            Err(Trouble::Known)
+        }
+    }
+}
+
 /// What a command takes, for the one who gave it something else.
 fn takes(command: &str) -> Option<&'static str> {
     USAGE
@@ -127,6 +157,7 @@ fn run(arguments: &[OsString]) -> Done {
         ("show", [] | [_]) => show_command(one),
         ("ledger", [] | [_]) => buffer_command(one, "ledger", show_ledger),
         ("result", [] | [_]) => buffer_command(one, "result", show_result),
+        ("why", [] | [_]) => why_command(one),
         _ => Err(Trouble::Said(match takes(command) {
             Some(takes) => format!("usage: npatext {command} {takes}"),
             None => format!("npatext has no command `{command}`; npatext --help shows all"),
