@@ -1,7 +1,9 @@
 //! OUTSIDE THE PROOFS: a plain Rust tool. It makes streams for npalist from
 //! readable text, shows streams, ledgers and results as text, and finds faults.
 
-use npatext::{make, many, show, show_ledger, show_result, text_of, version, Shown, Source, Why};
+use npatext::{
+    check, make, many, show, show_ledger, show_result, tables, text_of, version, Shown, Source, Why,
+};
 use std::env;
 use std::ffi::OsString;
 use std::io::{self, BufWriter, ErrorKind, StdoutLock, Write};
@@ -15,11 +17,13 @@ usage: npatext COMMAND FILES
   ledger [LEDGER]             a ledger to text
   result [RESULT]             a result to text
   why [STREAM]                every fault of a stream in words
+  check STREAM LISTING        whether a file is the whole listing of a stream
+  tables STREAM LISTING DIR   rows.csv, pools.csv and refusals.csv of a listing, in a folder
   --help                      this text
   --version                   the version
 A file named - is standard input, and so is one in [] that is left out.
-The status is 0; it is 1 if something is wrong, which is said: faults that why finds on standard output, everything
-else on standard error.
+The status is 0; it is 1 if something is wrong, which is said: faults that why finds and what check compares on
+standard output, everything else on standard error.
 ";
 
 /// Why a command ends with status 1.
@@ -129,6 +133,31 @@ fn why_command(path: &Path) -> Done {
     }
 }
 
+/// Whether a listing is the whole listing of a stream.
+fn check_command(stream: &Path, listing: &Path) -> Done {
+    let (stream, listing) = Source::pair(stream, listing)?;
+    let checked = check(stream, listing)?;
+    let mut out = Out::new();
+    for line in &checked.lines {
+        out.line(line)?;
+    }
+    out.end()?;
+    match checked.whole {
+        true => Ok(()),
+        false => Err(Trouble::Known),
+    }
+}
+
+/// The tables of a listing.
+fn tables_command(stream: &Path, listing: &Path, folder: &Path) -> Done {
+    let (stream, listing) = Source::pair(stream, listing)?;
+    let mut out = Out::new();
+    for line in tables(stream, listing, folder)? {
+        out.line(&line)?;
+    }
+    out.end()
+}
+
 /// What a command takes, for the one who gave it something else.
 fn takes(command: &str) -> Option<&'static str> {
     USAGE
@@ -158,6 +187,8 @@ fn run(arguments: &[OsString]) -> Done {
         ("ledger", [] | [_]) => buffer_command(one, "ledger", show_ledger),
         ("result", [] | [_]) => buffer_command(one, "result", show_result),
         ("why", [] | [_]) => why_command(one),
+        ("check", [stream, listing]) => check_command(stream, listing),
+        ("tables", [stream, listing, folder]) => tables_command(stream, listing, folder),
         _ => Err(Trouble::Said(match takes(command) {
             Some(takes) => format!("usage: npatext {command} {takes}"),
             None => format!("npatext has no command `{command}`; npatext --help shows all"),
