@@ -492,6 +492,45 @@ fn first_grounds_of_damaged_blocks_are_npalists() {
     }
 }
 
+/// Events that fill the pool, some of them until a bonus empties it: ground 16 is where npalist has it, and its
+/// carried cents are those of the pool line before.
+#[test]
+fn pools_at_the_limit_are_npalists() {
+    let mut met = Met::new();
+    for seed in 0..40 {
+        let rng = &mut Rng::of(16, seed);
+        let net_cone = 170_000 + rng.below(30_001);
+        let mut text = format!("opening net_cone={net_cone} days=366 ids=1-512\n");
+        for interval in 0..8 {
+            let rows = 300 + rng.below(212);
+            let metered = rng.below(1_000_000);
+            text += &format!("interval {interval}\nrow 1-{rows} kind=demand committed=4000000 metered={metered}\n");
+            if rng.one_in(6) {
+                text += "row 512 kind=demand metered=1\n";
+            }
+        }
+        let stream = make(&text).expect("it is a text");
+        agree(&stream, &format!("seed {seed}"), &mut met);
+        let listing = String::from_utf8(npalist(&stream)).expect("a listing is text");
+        let mut carried = "0";
+        let mut lines = said(&stream).into_iter();
+        for line in listing.lines() {
+            if line.starts_with("pool,") {
+                carried = line.rsplit(',').next().expect("it has fields");
+            } else if line.starts_with("refused,") {
+                let line = lines.next().expect("a line for each refusal");
+                assert!(
+                    line.contains(&format!(": carried {carried} and charges ")),
+                    "{line}"
+                );
+            }
+        }
+        assert_eq!(lines.next(), None);
+    }
+    assert_eq!(met.keys().copied().collect::<Vec<_>>(), [16]);
+    assert!(met[&16] > 40, "{met:?}");
+}
+
 /// Words set out of range, at random, are named, each of them and nothing else.
 #[test]
 fn every_planted_fault_is_named() {
