@@ -1,18 +1,25 @@
 /*
- * The settlement module, for callers in C and C++. docs/FORMATS.md has the layout of every buffer.
+ * The settlement module, for callers in C (C99 and later) and C++ (C++11 and later). docs/FORMATS.md has the layout of
+ * every buffer, docs/OPERATING.md says how a ledger is kept.
  *
  * A call is lent byte buffers, each a pointer and a length in bytes, at any address. It answers NPA_OK or
  * the first refusal, in the order below, that applies.
  *
  * The caller guarantees, for every call:
- * - each length is true, and no pointer is null, also where the length is 0;
+ * - each length is true, and no pointer is null, also where the length is 0. The data() of an empty C++ vector may be
+ *   null, and so may malloc(0): lend the address of any byte with the length 0 instead;
  * - the buffers do not overlap, and nobody else touches them until the call answers.
  *
  * The module guarantees:
  * - it reads and writes only within the lengths given, and writes nothing that is lent as const;
  * - a refused call leaves every byte as it was;
  * - bytes of a ledger beyond its last account, and of a result beyond its last row, are never written;
- * - it keeps no state between calls and allocates nothing.
+ * - it keeps no state between calls, allocates nothing and calls nothing but memcpy and its like, so calls on different
+ *   ledgers, each with buffers of its own, may run at once in any number of threads;
+ * - a call uses at most NPA_STACK_MOST bytes of stack.
+ *
+ * The archive has code for x86-64 Linux (ELF, the System V calling convention), independent of its position, so that
+ * it can go into a shared library too.
  */
 #ifndef NPA_H
 #define NPA_H
@@ -20,23 +27,179 @@
 #include <stddef.h>
 #include <stdint.h>
 
+/* The version of header and archive. */
+#define NPA_VERSION "1.0.0"
+#define NPA_VERSION_MAJOR 1
+#define NPA_VERSION_MINOR 0
+#define NPA_VERSION_PATCH 0
+
+/*
+ * The stack that a call uses, at most, in bytes. tests/c/stack.c measures it, and tests/link prints what it was; the
+ * dynamic linker's own, where a call is the first to need memcpy, is counted.
+ */
+#define NPA_STACK_MOST 40960
+
+/* The compiler warns where it sees a null pointer, and where the answer is ignored. */
+#if defined(__GNUC__)
+#define NPA_NOT_NULL __attribute__((__nonnull__))
+#define NPA_ANSWERS __attribute__((__warn_unused_result__))
+#else
+#define NPA_NOT_NULL
+#define NPA_ANSWERS
+#endif
+
 #ifdef __cplusplus
 extern "C" {
 #endif
 
-/* The most ids of a ledger, and rows of an interval file. */
+/* Word 0 of an opening block, an interval file and a ledger. */
+#define NPA_FORMAT_1 1
+
+/*
+ * Sizes, in bytes. A block is a header and ids; a file a header, rows and points; a ledger a header and accounts; a
+ * result a header, which is the interval's words, and rows.
+ */
+#define NPA_BLOCK_HEADER_BYTES 20
+#define NPA_ID_BYTES 4
+#define NPA_FILE_HEADER_BYTES 40
+#define NPA_ROW_BYTES 56
+#define NPA_POINT_BYTES 8
+#define NPA_LEDGER_HEADER_BYTES 64
+#define NPA_ACCOUNT_BYTES 32
+#define NPA_RESULT_HEADER_BYTES 64
+#define NPA_RESULT_ROW_BYTES 64
+
+/* The most ids of a ledger, rows and points of an interval file, and points of one row. */
 #define NPA_IDS_MOST 512
 #define NPA_ROWS_MOST 512
+#define NPA_POINTS_MOST 2048
+#define NPA_ROW_POINTS_MOST 10
 
 /* Bytes of a ledger of so many ids, and of a result of so many rows. */
-#define NPA_LEDGER_BYTES(ids) ((size_t)64 + (size_t)32 * (ids))
-#define NPA_RESULT_BYTES(rows) ((size_t)64 + (size_t)64 * (rows))
+#define NPA_LEDGER_BYTES(ids) ((size_t)NPA_LEDGER_HEADER_BYTES + (size_t)NPA_ACCOUNT_BYTES * (ids))
+#define NPA_RESULT_BYTES(rows) ((size_t)NPA_RESULT_HEADER_BYTES + (size_t)NPA_RESULT_ROW_BYTES * (rows))
+
+/* Where an account of a ledger and a row of a result begin, counted from 0. */
+#define NPA_ACCOUNT_AT(number) NPA_LEDGER_BYTES(number)
+#define NPA_RESULT_ROW_AT(number) NPA_RESULT_BYTES(number)
 
 /* The most bytes that any ledger or result needs, and that an opening block or interval file may have. */
 #define NPA_LEDGER_MOST NPA_LEDGER_BYTES(NPA_IDS_MOST)
 #define NPA_RESULT_MOST NPA_RESULT_BYTES(NPA_ROWS_MOST)
 #define NPA_BLOCK_MOST 4096
 #define NPA_FILE_MOST 49152
+
+/* The most cents per MW-day of Net CONE; kW of a row or point, and of imports, either way; cents per MWh, either way. */
+#define NPA_NET_CONE_MOST 200000
+#define NPA_KW_MOST 4000000
+#define NPA_IMPORTS_MOST 40000000
+#define NPA_PRICE_MOST 1000000
+
+/* Intervals of a day; the interval of a file is below this times the days of the year. */
+#define NPA_DAY_INTERVALS 288
+
+/* The most cents that can be carried, and the most that a pool can have. */
+#define NPA_POOL_MOST UINT64_C(1099511627775)
+
+/*
+ * Words by number, for the readers and writers below. Words of a block, file, row or point have 32 bits; words of a
+ * ledger, account or result have 64.
+ */
+
+enum npa_block_word {
+    NPA_BLOCK_FORMAT = 0,
+    NPA_BLOCK_NET_CONE = 1, /* cents per MW-day */
+    NPA_BLOCK_DAYS = 2,     /* 365 or 366 */
+    NPA_BLOCK_IDS = 3,      /* how many */
+    NPA_BLOCK_IDS_AT = 4    /* offset in bytes */
+};
+
+enum npa_file_word {
+    NPA_FILE_FORMAT = 0,
+    NPA_FILE_INTERVAL = 1,
+    NPA_FILE_NET_CONE = 2,
+    NPA_FILE_DAYS = 3,
+    NPA_FILE_REGION_WIDE = 4, /* 0 or 1 */
+    NPA_FILE_IMPORTS = 5,     /* kW, signed */
+    NPA_FILE_ROWS = 6,        /* how many */
+    NPA_FILE_ROWS_AT = 7,     /* offset in bytes */
+    NPA_FILE_POINTS = 8,      /* how many */
+    NPA_FILE_POINTS_AT = 9    /* offset in bytes */
+};
+
+/* Of a row in a file. Words 2 to 9 are kW. */
+enum npa_row_word {
+    NPA_ROW_ID = 0,
+    NPA_ROW_KIND = 1, /* enum npa_kind */
+    NPA_ROW_COMMITTED = 2,
+    NPA_ROW_OWNED = 3,
+    NPA_ROW_METERED = 4,      /* signed */
+    NPA_ROW_ADJUSTMENT = 5,   /* reserve and regulation, signed */
+    NPA_ROW_PLANNED = 6,      /* planned or maintenance outage */
+    NPA_ROW_FORCED = 7,       /* forced outage */
+    NPA_ROW_MAXIMUM = 8,      /* emergency maximum */
+    NPA_ROW_MINIMUM = 9,      /* economic minimum */
+    NPA_ROW_ONLINE = 10,      /* 0 or 1 */
+    NPA_ROW_LMP = 11,         /* cents per MWh, signed */
+    NPA_ROW_FIRST_POINT = 12, /* counted from 0 */
+    NPA_ROW_POINTS = 13       /* how many */
+};
+
+enum npa_kind {
+    NPA_KIND_GENERATION = 0, /* or storage */
+    NPA_KIND_DEMAND = 1,
+    NPA_KIND_EFFICIENCY = 2,
+    NPA_KIND_PRD = 3, /* price responsive demand */
+    NPA_KIND_ENERGY_ONLY = 4
+};
+
+enum npa_point_word {
+    NPA_POINT_PRICE = 0, /* cents per MWh, signed */
+    NPA_POINT_KW = 1
+};
+
+enum npa_ledger_word {
+    NPA_LEDGER_FORMAT = 0,
+    NPA_LEDGER_NET_CONE = 1,
+    NPA_LEDGER_DAYS = 2,
+    NPA_LEDGER_EARLIEST = 3,    /* the earliest interval still accepted */
+    NPA_LEDGER_CARRIED = 4,     /* cents */
+    NPA_LEDGER_ACCOUNTS = 5,    /* how many */
+    NPA_LEDGER_ACCOUNTS_AT = 6, /* offset in words: 8 */
+    NPA_LEDGER_ZERO = 7
+};
+
+/* Of an account in a ledger. */
+enum npa_account_word {
+    NPA_ACCOUNT_ID = 0,
+    NPA_ACCOUNT_COMMITTED = 1, /* kW, the largest so far */
+    NPA_ACCOUNT_CHARGED = 2,   /* cents */
+    NPA_ACCOUNT_CREDITED = 3   /* cents */
+};
+
+/* Of the interval, at the head of a result. */
+enum npa_result_word {
+    NPA_RESULT_RATIO = 0, /* millionths */
+    NPA_RESULT_CHARGES = 1,
+    NPA_RESULT_CREDITS = 2,
+    NPA_RESULT_CARRIED = 3,
+    NPA_RESULT_BONUS = 4, /* kW, of all rows */
+    NPA_RESULT_NUMERATOR = 5,
+    NPA_RESULT_DENOMINATOR = 6,
+    NPA_RESULT_ROWS = 7 /* how many */
+};
+
+/* Of a row in a result. */
+enum npa_result_row_word {
+    NPA_RESULT_ROW_EXPECTED = 0,
+    NPA_RESULT_ROW_ACTUAL = 1,
+    NPA_RESULT_ROW_OUTAGE = 2,
+    NPA_RESULT_ROW_ECONOMIC = 3,
+    NPA_RESULT_ROW_SHORTFALL = 4,
+    NPA_RESULT_ROW_BONUS = 5,
+    NPA_RESULT_ROW_CHARGE = 6, /* cents */
+    NPA_RESULT_ROW_CREDIT = 7  /* cents */
+};
 
 enum npa_answer {
     NPA_OK = 0,
@@ -69,6 +232,7 @@ enum npa_answer {
  * ledger  needs NPA_LEDGER_BYTES(ids) bytes; what they held before does not matter. On NPA_OK all of them are
  *         written: the terms, no interval settled, no cents carried, and an account without sums for each id.
  */
+NPA_ANSWERS NPA_NOT_NULL
 uint32_t npa_open(const uint8_t *block, size_t block_len, uint8_t *ledger, size_t ledger_len);
 
 /*
@@ -80,16 +244,105 @@ uint32_t npa_open(const uint8_t *block, size_t block_len, uint8_t *ledger, size_
  *         later intervals are accepted: the same file again is NPA_REFUSED_PAST.
  * file    is read. It may be any bytes; whatever is not as laid out is refused.
  * result  needs NPA_RESULT_BYTES(rows) bytes; what they held before does not matter, and NPA_RESULT_MOST bytes are
- *         enough for any file. On NPA_OK they hold words of 64 bits, lowest byte first. The interval's are
- *         the ratio, its charges, credits and cents carried, the total bonus, numerator and denominator of the
- *         ratio, and how many rows there are; behind them come each row's, in the file's order: the kW expected,
- *         actual, outage, economic, shortfall and bonus, and the cents charged and credited.
+ *         enough for any file. On NPA_OK they hold the interval's words and then each row's, in the file's order.
  *
- * The caller keeps ledger and result together: the module can give neither a second time. After a refusal both
- * are as they were; unless it is NPA_REFUSED_LEDGER, the ledger takes the next file.
+ * The caller saves ledger and result together (docs/OPERATING.md). The same file into the same ledger gives the same
+ * bytes, however often; but once the ledger has moved on, only a copy of it from before the call gives them again.
+ * After a refusal both are as they were; unless it is NPA_REFUSED_LEDGER, the ledger takes the next file.
  */
+NPA_ANSWERS NPA_NOT_NULL
 uint32_t npa_settle(uint8_t *ledger, size_t ledger_len, const uint8_t *file, size_t file_len, uint8_t *result,
                     size_t result_len);
+
+/*
+ * Readers and writers of words, lowest byte first, at any address and on any machine. A word is counted in its own
+ * size from where the header, row, point or account begins.
+ */
+
+/* A word of 32 bits: of a block, file, row or point. */
+NPA_ANSWERS NPA_NOT_NULL
+static inline uint32_t npa_get32(const uint8_t *bytes, size_t word)
+{
+    const uint8_t *at = bytes + 4 * word;
+    return (uint32_t)at[0] | (uint32_t)at[1] << 8 | (uint32_t)at[2] << 16 | (uint32_t)at[3] << 24;
+}
+
+/* A signed word of 32 bits: imports, metered, adjustment, LMP, price. */
+NPA_ANSWERS NPA_NOT_NULL
+static inline int32_t npa_get32_signed(const uint8_t *bytes, size_t word)
+{
+    uint32_t value = npa_get32(bytes, word);
+    return value <= INT32_MAX ? (int32_t)value : -(int32_t)(UINT32_MAX - value) - 1;
+}
+
+/* A word of 64 bits: of a ledger, account or result. */
+NPA_ANSWERS NPA_NOT_NULL
+static inline uint64_t npa_get64(const uint8_t *bytes, size_t word)
+{
+    return (uint64_t)npa_get32(bytes, 2 * word) | (uint64_t)npa_get32(bytes, 2 * word + 1) << 32;
+}
+
+/* Writes a word of 32 bits; a signed number is cast: npa_put32(row, NPA_ROW_LMP, (uint32_t)-500). */
+NPA_NOT_NULL
+static inline void npa_put32(uint8_t *bytes, size_t word, uint32_t value)
+{
+    uint8_t *at = bytes + 4 * word;
+    at[0] = (uint8_t)value;
+    at[1] = (uint8_t)(value >> 8);
+    at[2] = (uint8_t)(value >> 16);
+    at[3] = (uint8_t)(value >> 24);
+}
+
+/* Writes a word of 64 bits. */
+NPA_NOT_NULL
+static inline void npa_put64(uint8_t *bytes, size_t word, uint64_t value)
+{
+    npa_put32(bytes, 2 * word, (uint32_t)value);
+    npa_put32(bytes, 2 * word + 1, (uint32_t)(value >> 32));
+}
+
+/* What an answer means, in words. */
+static inline const char *npa_answer_text(uint32_t answer)
+{
+    switch (answer) {
+    case NPA_OK:
+        return "accepted";
+    case NPA_REFUSED_BLOCK:
+        return "the opening block is too short, too long or of another format";
+    case NPA_REFUSED_TERMS:
+        return "Net CONE is outside 1 to 200000 cents per MW-day, or the days are neither 365 nor 366";
+    case NPA_REFUSED_ID_TABLE:
+        return "there are no ids or more than 512, or they do not lie inside the block";
+    case NPA_REFUSED_IDS:
+        return "an id is 0, or not above the one before it";
+    case NPA_REFUSED_LEDGER_ROOM:
+        return "the ledger buffer is too short";
+    case NPA_REFUSED_LEDGER:
+        return "the ledger is cut short or damaged, or its sums do not close";
+    case NPA_REFUSED_FILE:
+        return "the interval file is too short, too long or of another format";
+    case NPA_REFUSED_OTHER_TERMS:
+        return "the file's Net CONE or days are not the ledger's";
+    case NPA_REFUSED_EVENT:
+        return "the interval is not in the year, region-wide is not 0 or 1, or imports are beyond 40000000 kW in or out";
+    case NPA_REFUSED_PAST:
+        return "the interval is before the earliest that the ledger still accepts; the same file again is such a one";
+    case NPA_REFUSED_TABLES:
+        return "there are no rows, more than 512, or more than 2048 points, or a table leaves the file or overlaps the other";
+    case NPA_REFUSED_ROW_IDS:
+        return "row ids do not rise, or a row has no account";
+    case NPA_REFUSED_ROW:
+        return "a word of a row is out of range (4000000 kW, 1000000 cents per MWh), or contradicts another";
+    case NPA_REFUSED_POINTS:
+        return "a row has more than 10 points, or they lie outside the table, are out of range or fall";
+    case NPA_REFUSED_RESULT_ROOM:
+        return "the result buffer is too short";
+    case NPA_REFUSED_POOL:
+        return "carried cents and charges together would exceed 1099511627775";
+    default:
+        return "no answer of the settlement module";
+    }
+}
 
 #ifdef __cplusplus
 }

@@ -13,7 +13,7 @@
 #define FILLER 0xa5
 
 /* Fails unless a number is the one it must be. */
-static void hold(const char *what, size_t which, uint64_t is, uint64_t must_be)
+static inline void hold(const char *what, size_t which, uint64_t is, uint64_t must_be)
 {
     if (is != must_be) {
         printf("%s %lu: %llu, not %llu\n", what, (unsigned long)which, (unsigned long long)is,
@@ -23,7 +23,7 @@ static void hold(const char *what, size_t which, uint64_t is, uint64_t must_be)
 }
 
 /* A buffer of just this length; what it holds is not set. */
-static uint8_t *buffer(size_t length)
+static inline uint8_t *buffer(size_t length)
 {
     uint8_t *bytes = (uint8_t *)malloc(length);
     if (bytes == NULL) {
@@ -34,7 +34,7 @@ static uint8_t *buffer(size_t length)
 }
 
 /* A buffer of just this length, filled. */
-static uint8_t *filled(size_t length)
+static inline uint8_t *filled(size_t length)
 {
     uint8_t *bytes = buffer(length);
     memset(bytes, FILLER, length);
@@ -42,7 +42,7 @@ static uint8_t *filled(size_t length)
 }
 
 /* A buffer of just the first so many bytes of these 32-bit words, each lowest byte first. */
-static uint8_t *bytes_of(const uint32_t *words, size_t length)
+static inline uint8_t *bytes_of(const uint32_t *words, size_t length)
 {
     uint8_t *bytes = buffer(length);
     size_t i;
@@ -53,7 +53,7 @@ static uint8_t *bytes_of(const uint32_t *words, size_t length)
 }
 
 /* A 64-bit word of a ledger or result, lowest byte first. */
-static uint64_t word(const uint8_t *bytes, size_t number)
+static inline uint64_t word(const uint8_t *bytes, size_t number)
 {
     uint64_t value = 0;
     size_t i;
@@ -64,7 +64,7 @@ static uint64_t word(const uint8_t *bytes, size_t number)
 }
 
 /* Holds bytes from one place to another to the filler. */
-static void hold_filler(const char *what, const uint8_t *bytes, size_t from, size_t to)
+static inline void hold_filler(const char *what, const uint8_t *bytes, size_t from, size_t to)
 {
     size_t i;
     for (i = from; i < to; i++) {

@@ -1,0 +1,90 @@
+/*
+ * Measures the stack that a call uses: a stretch below the caller's frame is painted before the call, and the lowest
+ * byte that lost its paint is looked for afterwards. It prints the most that opening and settling used, the caller's
+ * own frame included, and fails if that is more than NPA_STACK_MOST.
+ */
+#include "full.h"
+
+#define PAINTED 262144
+#define OWN_FRAME 512
+
+static uint8_t block[FULL_BLOCK_LEN];
+static uint8_t file[FULL_FILE_LEN];
+static uint8_t ledger[NPA_LEDGER_BYTES(NPA_IDS_MOST)];
+static uint8_t result[NPA_RESULT_BYTES(NPA_ROWS_MOST)];
+static size_t result_len = sizeof result;
+
+static uint32_t open_full(void)
+{
+    return npa_open(block, sizeof block, ledger, sizeof ledger);
+}
+
+static uint32_t settle_full(void)
+{
+    return npa_settle(ledger, sizeof ledger, file, sizeof file, result, result_len);
+}
+
+/* The stack that a call uses; it must give this answer. */
+__attribute__((noinline)) static size_t used(const char *what, uint32_t (*call)(void), uint32_t answer)
+{
+    /* The address is kept as a number, so that the compiler makes nothing of its lying outside every object. */
+    uintptr_t top = (uintptr_t)__builtin_frame_address(0);
+    volatile uint8_t *at;
+    uint32_t answered;
+
+    for (at = (volatile uint8_t *)(top - OWN_FRAME); at > (volatile uint8_t *)(top - PAINTED); at--) {
+        *at = FILLER;
+    }
+    answered = call();
+    at = (volatile uint8_t *)(top - PAINTED + 1);
+    while (at < (volatile uint8_t *)(top - OWN_FRAME) && *at == FILLER) {
+        at++;
+    }
+    hold(what, 0, answered, answer);
+    return (size_t)(top - (uintptr_t)at);
+}
+
+/* The greater of a number so far and what settling uses. */
+static size_t settled(size_t most, uint32_t answer)
+{
+    size_t is = used("answer to settling", settle_full, answer);
+    return is > most ? is : most;
+}
+
+int main(void)
+{
+    const size_t rows = NPA_FILE_HEADER_BYTES;
+    const size_t last_point = sizeof file - NPA_POINT_BYTES;
+    size_t opening, settling = 0;
+    uint32_t interval;
+
+    write_full_block(block);
+    opening = used("answer to opening", open_full, NPA_OK);
+    for (interval = 0; interval < 5; interval++) {
+        write_full_file(file, interval, interval);
+        settling = settled(settling, NPA_OK);
+    }
+    settling = settled(settling, NPA_REFUSED_PAST);
+
+    /* Refusals far into the file: in the last row, its points, the room for the result. */
+    write_full_file(file, interval, interval);
+    npa_put32(file + rows + NPA_ROW_BYTES * (NPA_ROWS_MOST - 1), NPA_ROW_ID, NPA_IDS_MOST + 1);
+    settling = settled(settling, NPA_REFUSED_ROW_IDS);
+    write_full_file(file, interval, interval);
+    npa_put32(file + rows + NPA_ROW_BYTES * (NPA_ROWS_MOST - 1), NPA_ROW_ONLINE, 2);
+    settling = settled(settling, NPA_REFUSED_ROW);
+    write_full_file(file, interval, interval);
+    npa_put32(file + rows + NPA_ROW_BYTES * (NPA_ROWS_MOST - 1), NPA_ROW_FIRST_POINT,
+              NPA_POINTS_MOST - NPA_ROW_POINTS_MOST);
+    npa_put32(file + last_point, NPA_POINT_KW, NPA_KW_MOST + 1);
+    settling = settled(settling, NPA_REFUSED_POINTS);
+    write_full_file(file, interval, interval);
+    result_len = sizeof result - 1;
+    settling = settled(settling, NPA_REFUSED_RESULT_ROOM);
+    npa_put64(ledger, NPA_LEDGER_ZERO, 1);
+    settling = settled(settling, NPA_REFUSED_LEDGER);
+
+    printf("opening %lu, settling %lu of at most %lu bytes of stack\n", (unsigned long)opening,
+           (unsigned long)settling, (unsigned long)NPA_STACK_MOST);
+    return opening > NPA_STACK_MOST || settling > NPA_STACK_MOST;
+}
