@@ -272,7 +272,7 @@ static struct folder *enter(const char *path)
         stop("folder %s: %s", path, strerror(errno));
     }
     if (flock(folder->fd, LOCK_EX | LOCK_NB) != 0) {
-        stop("folder %s: another desk is at work in it (%s)", path, strerror(errno));
+        stop("folder %s: %s", path, errno == EWOULDBLOCK ? "another desk is at work in it" : strerror(errno));
     }
     length = read_file(folder->fd, RECORD, (uint8_t *)record, sizeof record - 1);
     if (length >= 0) {
