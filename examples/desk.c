@@ -9,13 +9,13 @@
  *   desk back FOLDER NEW INTERVAL   copies what was saved before INTERVAL to the empty folder NEW, to settle from there
  *
  * Each accepted call leaves one file in the folder, a save: the ledger, the result of the call and the SHA-256 of both.
- * Its name is word 3 of the ledger, the earliest interval still accepted, as 001001.save; an opening leaves 000000.save.
+ * Its name is word 3 of the ledger, the earliest interval still accepted: 001001.save, and 000000.save of an opening.
  * The file `last` has the name and the SHA-256 of the save that counts, as sha256sum writes them: `sha256sum -c last`.
  * A save is whole on disk before `last` names it. A loss of power leaves at most one save that `last` does not name;
  * the file that it came from is settled again, and gives the same bytes.
  *
- * Exit status: 0; 1 if the module refused a block or file; 2 if something else is wrong. It stops at the first file that
- * is refused, since an interval cannot be settled once a later one is.
+ * Exit status: 0; 1 if the module refused a block or file; 2 if something else is wrong. It stops at the first file
+ * that is refused, since an interval cannot be settled once a later one is.
  *
  * cc -Iinclude examples/desk.c target/staticlib/libnpa.a -o desk
  */
@@ -53,12 +53,12 @@ struct save {
 struct folder {
     const char *path;
     int fd;
-    int opened;                    /* there is a record, and `last` is the save that it names */
-    struct save last;
-    uint32_t intervals[SAVES_MOST]; /* word 3 of every save up to the last, rising */
+    int opened;       /* there is a record */
+    struct save last; /* the save that it names */
+    uint32_t intervals[SAVES_MOST]; /* word 3 of every save up to that one, rising */
     size_t saves;
-    int unfinished;                /* there is one save that the record does not name yet, of this word 3 */
-    uint32_t unfinished_at;
+    int unfinished;         /* there is a save that the record does not name yet */
+    uint32_t unfinished_at; /* its word 3 */
 };
 
 __attribute__((noreturn, format(printf, 1, 2))) static void stop(const char *format, ...)
@@ -250,8 +250,8 @@ static void find_saves(struct folder *folder)
     qsort(folder->intervals, folder->saves, sizeof folder->intervals[0], by_interval);
     folder->unfinished = above == 1;
     if (above > 1) {
-        stop("%s has %lu saves after the one that `%s` names: the record was put back or is missing; bring the right one "
-             "from a copy",
+        stop("%s has %lu saves after the one that `%s` names: the record was put back or is missing; "
+             "bring the right one from a copy",
              folder->path, (unsigned long)above, RECORD);
     }
 }
@@ -287,8 +287,8 @@ static struct folder *enter(const char *path)
         load(folder, (uint32_t)interval_of(name), &folder->last);
         save_hex(&folder->last, hex);
         if (strncmp(record, hex, HEX_LENGTH) != 0) {
-            stop("%s/%s is whole, but not the ledger that was saved last, whose SHA-256 %s has: put that one back from a "
-                 "copy",
+            stop("%s/%s is whole, but not the ledger that was saved last, whose SHA-256 `%s` has: "
+                 "put that one back from a copy",
                  path, name, RECORD);
         }
         folder->opened = 1;
@@ -339,8 +339,8 @@ static void finish(const struct folder *folder, const struct save *save, const c
 {
     if (folder->unfinished && (folder->unfinished_at != earliest(save) || !is_there(folder, save))) {
         const char *name = save_name(folder->unfinished_at);
-        stop("%s is not what %s/%s came from, which was saved but not recorded: settle that file first (interval %ld), or "
-             "remove the save to leave it out",
+        stop("%s is not what %s/%s came from, which was saved but not recorded: settle that file first (interval %ld), "
+             "or remove the save to leave it out",
              path, folder->path, name, (long)folder->unfinished_at - 1);
     }
 }
@@ -436,7 +436,8 @@ static void show(const struct folder *folder)
     save_hex(&folder->last, hex);
     printf("%s  %s\n", hex, save_name(earliest(&folder->last)));
     printf("%lu intervals settled, the next is %" PRIu32 " or later; carried %" PRIu64 " cents\n",
-           (unsigned long)folder->saves - 1, earliest(&folder->last), npa_get64(folder->last.bytes, NPA_LEDGER_CARRIED));
+           (unsigned long)folder->saves - 1, earliest(&folder->last),
+           npa_get64(folder->last.bytes, NPA_LEDGER_CARRIED));
     if (folder->unfinished) {
         printf("interval %ld was being saved: settle its file again\n", (long)folder->unfinished_at - 1);
     }

@@ -1,4 +1,5 @@
-// A year with one plant and one interval, from C++: c++ -std=c++11 -Iinclude examples/settle.cpp target/staticlib/libnpa.a
+// A year with one plant and one interval, from C++:
+// c++ -std=c++11 -Iinclude examples/settle.cpp target/staticlib/libnpa.a
 #include "npa.h"
 
 #include <initializer_list>

@@ -56,7 +56,8 @@ static inline void sha256_block(uint32_t state[8], const uint8_t *block)
 
 static inline void sha256(const uint8_t *bytes, size_t length, uint8_t sum[SHA256_BYTES])
 {
-    uint32_t state[8] = {0x6a09e667, 0xbb67ae85, 0x3c6ef372, 0xa54ff53a, 0x510e527f, 0x9b05688c, 0x1f83d9ab, 0x5be0cd19};
+    uint32_t state[8] = {0x6a09e667, 0xbb67ae85, 0x3c6ef372, 0xa54ff53a,
+                         0x510e527f, 0x9b05688c, 0x1f83d9ab, 0x5be0cd19};
     uint8_t end[128] = {0};
     size_t rest = length % 64, end_length = rest < 56 ? 64 : 128, i;
     uint64_t bits = (uint64_t)length * 8;

@@ -34,8 +34,8 @@
 #define NPA_VERSION_PATCH 0
 
 /*
- * The stack that a call uses, at most, in bytes. tests/c/stack.c measures it, and tests/link prints what it was; the
- * dynamic linker's own, where a call is the first to need memcpy, is counted.
+ * The stack that a call uses, at most, in bytes. The dynamic linker's own is counted, where a call is the first to need
+ * memcpy. To measure: cc -Iinclude tests/c/stack.c target/staticlib/libnpa.a && ./a.out
  */
 #define NPA_STACK_MOST 40960
 
@@ -89,7 +89,7 @@ extern "C" {
 #define NPA_BLOCK_MOST 4096
 #define NPA_FILE_MOST 49152
 
-/* The most cents per MW-day of Net CONE; kW of a row or point, and of imports, either way; cents per MWh, either way. */
+/* The most cents per MW-day of Net CONE; kW of a row or point; kW of imports, either way; cents per MWh, either way. */
 #define NPA_NET_CONE_MOST 200000
 #define NPA_KW_MOST 4000000
 #define NPA_IMPORTS_MOST 40000000
@@ -324,11 +324,13 @@ static inline const char *npa_answer_text(uint32_t answer)
     case NPA_REFUSED_OTHER_TERMS:
         return "the file's Net CONE or days are not the ledger's";
     case NPA_REFUSED_EVENT:
-        return "the interval is not in the year, region-wide is not 0 or 1, or imports are beyond 40000000 kW in or out";
+        return "the interval is not in the year, region-wide is not 0 or 1, "
+               "or imports are beyond 40000000 kW in or out";
     case NPA_REFUSED_PAST:
         return "the interval is before the earliest that the ledger still accepts; the same file again is such a one";
     case NPA_REFUSED_TABLES:
-        return "there are no rows, more than 512, or more than 2048 points, or a table leaves the file or overlaps the other";
+        return "there are no rows, more than 512, or more than 2048 points, "
+               "or a table leaves the file or overlaps the other";
     case NPA_REFUSED_ROW_IDS:
         return "row ids do not rise, or a row has no account";
     case NPA_REFUSED_ROW:

@@ -1,5 +1,5 @@
 /*
- * files FOLDER N: writes an opening block, `block`, and N interval files, `0001` and on, each of a later interval. Twenty
+ * files FOLDER N: writes an opening block, `block`, and N interval files, `0001` and on, of rising intervals. Twenty
  * plants of every kind fall short of what is expected of them and exceed it by turns, so that every file moves money.
  */
 #include "npa.h"

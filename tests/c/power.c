@@ -20,7 +20,7 @@
 #define FDS 64
 #define UNDO "undo"
 
-/* Of an open file that is being written: its name, and the bytes of it that are flushed; of the folder, its fd. */
+/* By descriptor, the files that are being written, and whether all of each is flushed. */
 static struct {
     char name[64];
     int writing;
@@ -28,11 +28,10 @@ static struct {
 } files[FDS];
 static int folder = -1;
 
-/* A renaming that is not flushed, and whether it replaced a file, which UNDO then is. */
+/* A renaming after which the folder is not flushed, whether it replaced a file, which UNDO then is, and whether the file
+ * that was renamed had not been flushed. */
 static char renamed[64];
 static int replaced;
-
-/* The file that was renamed was not flushed. */
 static int renamed_dirty;
 
 static void out(const char *call, const char *name, const char *more)

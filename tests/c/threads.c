@@ -62,8 +62,7 @@ int main(void)
     }
     for (i = 0; i < THREADS; i++) {
         hold("end of thread", i, (uint64_t)pthread_join(threads[i], NULL), 0);
-        hold("ledger of thread", i, memcmp(at_once[i].ledger, one_by_one[i].ledger, sizeof at_once[i].ledger) == 0, 1);
-        hold("results of thread", i, memcmp(at_once[i].results, one_by_one[i].results, sizeof at_once[i].results) == 0, 1);
+        hold("the year of thread", i, memcmp(&at_once[i], &one_by_one[i], sizeof at_once[i]) == 0, 1);
     }
     hold("two ledgers differ", 0, memcmp(at_once[0].ledger, at_once[1].ledger, sizeof at_once[0].ledger) != 0, 1);
     free(one_by_one);
