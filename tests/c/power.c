@@ -6,8 +6,6 @@
  */
 #define _GNU_SOURCE
 
-#include <dlfcn.h>
-#include <errno.h>
 #include <fcntl.h>
 #include <signal.h>
 #include <stdarg.h>
