@@ -339,6 +339,11 @@ static void finish(const struct folder *folder, const struct save *save, const c
 {
     if (folder->unfinished && (folder->unfinished_at != earliest(save) || !is_there(folder, save))) {
         const char *name = save_name(folder->unfinished_at);
+        if (folder->unfinished_at == 0) {
+            stop("%s is not the block that %s/%s came from, which was saved but not recorded: open with that block, "
+                 "or remove the save",
+                 path, folder->path, name);
+        }
         stop("%s is not what %s/%s came from, which was saved but not recorded: settle that file first (interval %ld), "
              "or remove the save to leave it out",
              path, folder->path, name, (long)folder->unfinished_at - 1);

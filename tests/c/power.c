@@ -16,23 +16,45 @@
 #include <unistd.h>
 
 #define FDS 64
+#define NAME 64
 #define UNDO "undo"
 
-/* By descriptor, the files that are being written, and whether all of each is flushed. */
-static struct {
-    char name[64];
-    int writing;
-    int dirty;
-} files[FDS];
 static int folder = -1;
 
-/* A renaming after which the folder is not flushed, whether it replaced a file, which UNDO then is, and whether the file
- * that was renamed had not been flushed. */
-static char renamed[64];
-static int replaced;
-static int renamed_dirty;
+/* By descriptor, the name of a file that is being written, else empty. */
+static char writing[FDS][NAME];
 
-static void out(const char *call, const char *name, const char *more)
+/* Names of files that are not flushed, or empty. */
+static char unflushed[FDS][NAME];
+
+/* The name that a renaming gave, while the folder is not flushed; and whether it replaced a file, which UNDO then is. */
+static char renamed[NAME];
+static int replaced;
+
+static void forget(const char *name)
+{
+    int i;
+    for (i = 0; i < FDS; i++) {
+        if (strcmp(unflushed[i], name) == 0) {
+            unflushed[i][0] = '\0';
+        }
+    }
+}
+
+static void remember(const char *name)
+{
+    int i;
+    forget(name);
+    for (i = 0; i < FDS; i++) {
+        if (unflushed[i][0] == '\0') {
+            snprintf(unflushed[i], NAME, "%s", name);
+            return;
+        }
+    }
+    abort();
+}
+
+static void note(const char *call, const char *name, const char *more)
 {
     const char *path = getenv("POWER_LOG");
     char line[256];
@@ -47,14 +69,6 @@ static void out(const char *call, const char *name, const char *more)
     }
 }
 
-static void empty(const char *name)
-{
-    int fd = (int)syscall(SYS_openat, folder, name, O_WRONLY | O_TRUNC);
-    if (fd >= 0) {
-        syscall(SYS_close, fd);
-    }
-}
-
 /* Ends the process as SIGKILL does, after the loss that is asked for. */
 static void die(void)
 {
@@ -64,25 +78,20 @@ static void die(void)
     int i;
 
     for (i = 0; i < FDS; i++) {
-        if (data && files[i].writing && files[i].dirty) {
-            empty(files[i].name);
+        if (data && unflushed[i][0] != '\0') {
+            syscall(SYS_openat, folder, unflushed[i], O_WRONLY | O_TRUNC);
         }
     }
-    if (data && renamed[0] && renamed_dirty) {
-        empty(renamed);
-    }
-    if (names && renamed[0]) {
-        if (replaced) {
-            renameat(folder, UNDO, folder, renamed);
-        } else {
-            unlinkat(folder, renamed, 0);
-        }
+    if (names && renamed[0] != '\0' && replaced) {
+        syscall(SYS_renameat, folder, UNDO, folder, renamed);
+    } else if (names && renamed[0] != '\0') {
+        syscall(SYS_unlinkat, folder, renamed, 0);
     }
     syscall(SYS_unlinkat, folder, UNDO, 0);
     raise(SIGKILL);
 }
 
-/* Counts the calls, and whether this is the one to end at. */
+/* Whether this call, counted from 1, is the one to end at. */
 static int is_last(void)
 {
     static int count;
@@ -96,7 +105,12 @@ static void seen(const char *call, const char *name, const char *more)
     if (is_last()) {
         die();
     }
-    out(call, name, more);
+    note(call, name, more);
+}
+
+static int is_writing(int fd)
+{
+    return fd >= 0 && fd < FDS && writing[fd][0] != '\0';
 }
 
 int openat(int in, const char *name, int flags, ...)
@@ -113,26 +127,22 @@ int openat(int in, const char *name, int flags, ...)
         seen("open", name, "");
     }
     fd = (int)syscall(SYS_openat, in, name, flags, mode);
-    if (fd >= 0 && fd < FDS) {
-        memset(&files[fd], 0, sizeof files[fd]);
-        if ((flags & O_CREAT) != 0) {
-            files[fd].writing = 1;
-            files[fd].dirty = 1;
-            snprintf(files[fd].name, sizeof files[fd].name, "%s", name);
-        }
+    if (fd >= 0 && fd < FDS && (flags & O_CREAT) != 0) {
+        snprintf(writing[fd], NAME, "%s", name);
+        remember(name);
     }
     return fd;
 }
 
 ssize_t write(int fd, const void *bytes, size_t length)
 {
-    if (fd >= 0 && fd < FDS && files[fd].writing) {
+    if (is_writing(fd)) {
         if (is_last()) {
             syscall(SYS_write, fd, bytes, length / 2);
             die();
         }
-        out("write", files[fd].name, "");
-        files[fd].dirty = 1;
+        note("write", writing[fd], "");
+        remember(writing[fd]);
     }
     return (ssize_t)syscall(SYS_write, fd, bytes, length);
 }
@@ -140,26 +150,23 @@ ssize_t write(int fd, const void *bytes, size_t length)
 int fsync(int fd)
 {
     int answer;
-    if (fd == folder) {
-        seen("fsync", "folder", "");
-        answer = (int)syscall(SYS_fsync, fd);
-        renamed[0] = '\0';
-        renamed_dirty = 0;
-        syscall(SYS_unlinkat, folder, UNDO, 0);
-        return answer;
-    }
-    seen("fsync", files[fd].name, "");
+
+    seen("fsync", is_writing(fd) ? writing[fd] : "folder", "");
     answer = (int)syscall(SYS_fsync, fd);
-    files[fd].dirty = answer != 0;
+    if (is_writing(fd)) {
+        forget(writing[fd]);
+    } else {
+        renamed[0] = '\0';
+        syscall(SYS_unlinkat, folder, UNDO, 0);
+    }
     return answer;
 }
 
 int close(int fd)
 {
-    if (fd >= 0 && fd < FDS && files[fd].writing) {
-        seen("close", files[fd].name, "");
-        /* Closing flushes nothing: a file that stays dirty is remembered by its descriptor until that is used again. */
-        files[fd].writing = files[fd].dirty;
+    if (is_writing(fd)) {
+        seen("close", writing[fd], "");
+        writing[fd][0] = '\0';
     }
     return (int)syscall(SYS_close, fd);
 }
@@ -167,13 +174,18 @@ int close(int fd)
 int renameat(int from, const char *old, int to, const char *name)
 {
     int i;
+
     seen("rename", old, name);
-    snprintf(renamed, sizeof renamed, "%s", name);
+    syscall(SYS_unlinkat, to, UNDO, 0);
     replaced = syscall(SYS_linkat, to, name, to, UNDO, 0) == 0;
+    snprintf(renamed, NAME, "%s", name);
+    forget(name);
     for (i = 0; i < FDS; i++) {
-        if (files[i].writing && files[i].dirty && strcmp(files[i].name, old) == 0) {
-            renamed_dirty = 1;
-            files[i].writing = 0;
+        if (strcmp(writing[i], old) == 0) {
+            snprintf(writing[i], NAME, "%s", name);
+        }
+        if (strcmp(unflushed[i], old) == 0) {
+            snprintf(unflushed[i], NAME, "%s", name);
         }
     }
     return (int)syscall(SYS_renameat, from, old, to, name);
