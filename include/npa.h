@@ -37,7 +37,7 @@
  * The stack that a call uses, at most, in bytes. The dynamic linker's own is counted, where a call is the first to need
  * memcpy. To measure: cc -Iinclude tests/c/stack.c target/staticlib/libnpa.a && ./a.out
  */
-#define NPA_STACK_MOST 40960
+#define NPA_STACK_MOST 8192
 
 /* The compiler warns where it sees a null pointer, and where the answer is ignored. */
 #if defined(__GNUC__)

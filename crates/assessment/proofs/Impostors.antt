@@ -4,7 +4,15 @@ use mathlib.Core.Path.{_≡_}
 use native.Mathlib.Omega.{arith}
 use lib.IntN.{pos}
 use Rattle.reading.specs.Interval.{Row, Kind, generation, demand, efficiency, responsive, energyOnly, noKind, kindOf}
-use Rattle.assessment.specs.Assessment.{actual, scheduled, ifConsidered, numeratorShareAs, numeratorShare, economic}
+use Rattle.assessment.specs.Assessment.{
+  actual,
+  scheduled,
+  economicScheduled,
+  ifConsidered,
+  numeratorShareAs,
+  numeratorShare,
+  economic,
+}
 use Rattle.assessment.specs.Figures.{row, curveA}
 use Rattle.assessment.proofs.Computing.{computing}
 
@@ -22,28 +30,28 @@ cutShareAs energyOnly r = min (actual r) (scheduled r)
 cutShareAs noKind r = numeratorShareAs noKind r
 
 -- uses the scheduled-cut actual in the numerator
-pub cutShare : Row → ℕ
-cutShare r = ifConsidered r (cutShareAs (kindOf (r .kind)) r)
+pub cutShare : ℕ → Row → ℕ
+cutShare regionWide r = ifConsidered regionWide r (cutShareAs (kindOf (r .kind)) r)
 
--- told by a row of kind 0 that gave more than it was scheduled for
-pub cut-share-told : cutShare (overScheduled 0) ≡ numeratorShare (overScheduled 0) → ⊥
+-- a row of kind 0 that gave more than it was scheduled for tells it from the definition
+pub cut-share-differs : cutShare 0 (overScheduled 0) ≡ numeratorShare 0 (overScheduled 0) → ⊥
 unfolding cutShare cutShareAs curveA computing
-cut-share-told same = omega (arith, same)
+cut-share-differs same = omega (arith, same)
 
--- told as well by such a row of kind 4
-pub cut-share-told-4 : cutShare (overScheduled 4) ≡ numeratorShare (overScheduled 4) → ⊥
+-- and such a row of kind 4
+pub cut-share-differs-4 : cutShare 0 (overScheduled 4) ≡ numeratorShare 0 (overScheduled 4) → ⊥
 unfolding cutShare cutShareAs curveA computing
-cut-share-told-4 same = omega (arith, same)
+cut-share-differs-4 same = omega (arith, same)
 
 -- excuses forced outage through the economic rule: what is owned less the planned outage alone
 pub forcedExcused : Row → ℕ → ℕ
-forcedExcused r expect = min (r .maximum) (min expect (r .owned - r .planned)) - max (scheduled r) (actual r)
+forcedExcused r expect = min (r .maximum) (min expect (r .owned - r .planned)) - max (economicScheduled r) (actual r)
 
 -- a row that owns 110000 kW, 30000 of them forced out, scheduled for 60000 and expected to give 100000
 abbrev pub forcedOut : Row
 forcedOut = row 0 100000 110000 (pos 50000) 0 30000 110000 20000 1 (pos 3000) curveA
 
--- told by the row with 30000 kW forced out
-pub forced-excused-told : forcedExcused forcedOut 100000 ≡ economic forcedOut 100000 → ⊥
+-- that row tells it from the definition
+pub forced-excused-differs : forcedExcused forcedOut 100000 ≡ economic forcedOut 100000 → ⊥
 unfolding forcedExcused curveA computing
-forced-excused-told same = omega (arith, same)
+forced-excused-differs same = omega (arith, same)

@@ -2,12 +2,12 @@ pub mod Computing
 pub mod Figures
 pub mod Promises
 pub mod Limits
-pub mod ChargeLaws
 pub mod Shares
+pub mod ChargeLaws
 pub mod KindLaws
+pub mod RatioLaws
 pub mod RuleLaws
 pub mod CurveNumbers
 pub mod CurveLaws
 pub mod SumLaws
-pub mod RowLaws
 pub mod Impostors

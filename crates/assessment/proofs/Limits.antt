@@ -1,42 +1,94 @@
--- The limit and the cut to it: laws over any rate and divisor, and any limit that rises with the commitment.
-use Prim.Native.Nat.{ℕ, zero, suc, _+_, _-_, _*_, _/_, _≤_, _<_, max}
-use native.Mathlib.Nat.{mul-le-mul-left, mul-le-mul, div-zero, div-lt-iff-lt-mul, lt-div-mul-add}
+-- Limits and charges, each a product over a divisor, rounded down: how they rise, what they are at most, and the cut of a charge.
+use Prim.Native.Nat.{ℕ, zero, suc, _-_, _*_, _/_, _≤_, _<_, max}
+use native.Mathlib.Nat.{mul-le-mul-left, mul-le-mul, div-zero, div-mul-le-self, le-div-iff-mul-le}
 use native.Mathlib.Omega.{arith}
 use Rattle.reading.specs.Block.{Terms, mostNetCone, leapYear}
-use Rattle.reading.specs.Interval.{mostKilowatts, Row}
+use Rattle.reading.specs.Interval.{mostKilowatts}
 use Rattle.reading.proofs.Bounds.{TermsIn}
-use Rattle.assessment.specs.Assessment.{limitFactor, limitDivisor, Account, raised, limit, charge}
+use Rattle.assessment.specs.Assessment.{
+  limitFactor,
+  divisors,
+  limitOver,
+  limit,
+  chargeOver,
+  fullCharge,
+  charge,
+  Account,
+  raised,
+}
+use Rattle.assessment.specs.Values.{mostCharge}
 
--- a quotient rises with what is divided
+-- a quotient rises with what is divided, and falls as the divisor grows
+quotient-le : {a b d e : ℕ} → 0 < d → d ≤ e → a ≤ b → a / e ≤ b / d
+quotient-le {a} {b} {d} {e} some wider h =
+    let below : a / e * d ≤ b = omega (arith, mul-le-mul-left (a / e) wider, div-mul-le-self a e) in
+    le-div-iff-mul-le {k = d} {x = a / e} {y = b} some .1 below
+
+-- over one divisor, whatever it is, a quotient rises with what is divided
 pub div-rises : (d : ℕ) {a b : ℕ} → a ≤ b → a / d ≤ b / d
 div-rises zero {a} {b} h = rw (div-zero a, div-zero b) (omega arith)
-div-rises (suc d) {a} {b} h =
-    let below : a < (b / suc d + 1) * suc d = omega (arith, lt-div-mul-add {a = b} {b = suc d} (omega arith)) in
-    let q = div-lt-iff-lt-mul {k = suc d} {x = a} {y = b / suc d + 1} (omega arith) .1 below in
-    omega (arith, q)
+div-rises (suc d) {a} {b} h = quotient-le (omega arith) (omega arith) h
 
--- a limit of so much for each kW, divided by anything, rises with the kW
-pub rate-rises : (rate divisor : ℕ) {a b : ℕ} → a ≤ b → rate * a / divisor ≤ rate * b / divisor
-rate-rises rate divisor h = div-rises divisor (mul-le-mul-left rate h)
+-- over any divisor a limit rises with the kW
+pub limit-over-rises : (divisor : ℕ) (t : Terms) {a b : ℕ} → a ≤ b → limitOver divisor t a ≤ limitOver divisor t b
+unfolding limitOver
+limit-over-rises divisor t h = div-rises divisor (mul-le-mul-left (limitFactor * t .netCone * t .days) h)
 
 -- the limit rises with the largest commitment
 pub limit-rises : (t : Terms) {a b : ℕ} → a ≤ b → limit t a ≤ limit t b
 unfolding limit
-limit-rises t h = rate-rises (limitFactor * t .netCone * t .days) limitDivisor h
+limit-rises t h = limit-over-rises (divisors t .limit) t h
 
 -- the largest limit of any account
 abbrev pub mostLimit : ℕ
-mostLimit = limitFactor * mostNetCone * leapYear * mostKilowatts / limitDivisor
+mostLimit = limitFactor * mostNetCone * leapYear * mostKilowatts / 2000
 
--- terms within their bounds and at most the most kW give no more than the largest limit
-pub limit-le : (t : Terms) (kw : ℕ) → TermsIn t → kw ≤ mostKilowatts → limit t kw ≤ mostLimit
-unfolding limit
-limit-le t kw i k =
+-- what is divided for a limit, on terms within their bounds and for at most the most kW
+pub limit-product-le : (t : Terms) (kw : ℕ) → TermsIn t → kw ≤ mostKilowatts
+    → limitFactor * t .netCone * t .days * kw ≤ limitFactor * mostNetCone * leapYear * mostKilowatts
+limit-product-le t kw i k =
     let cone : limitFactor * t .netCone ≤ limitFactor * mostNetCone = omega (arith, i .netCone) in
     let year : limitFactor * t .netCone * t .days ≤ limitFactor * mostNetCone * leapYear = mul-le-mul cone (i .days) in
-    div-rises limitDivisor (mul-le-mul year k)
+    mul-le-mul year k
+
+-- it gives no more than the largest limit, over any divisor of at least 2000
+pub limit-over-le : (divisor : ℕ) (t : Terms) (kw : ℕ) → 2000 ≤ divisor → TermsIn t → kw ≤ mostKilowatts
+    → limitOver divisor t kw ≤ mostLimit
+unfolding limitOver
+limit-over-le divisor t kw wide i k = quotient-le {d = 2000} (omega arith) wide (limit-product-le t kw i k)
+
+-- and so no account's limit is larger
+pub limit-le : (t : Terms) (kw : ℕ) → TermsIn t → kw ≤ mostKilowatts → limit t kw ≤ mostLimit
+unfolding limit divisors
+limit-le t kw i k = limit-over-le 2000 t kw (omega arith) i k
+
+-- what is divided for a charge, on terms within their bounds and for at most the most kW
+pub charge-product-le : (t : Terms) (short : ℕ) → TermsIn t → short ≤ mostKilowatts
+    → short * t .netCone * t .days ≤ mostKilowatts * mostNetCone * leapYear
+charge-product-le t short i k = mul-le-mul (mul-le-mul k (i .netCone)) (i .days)
+
+-- it gives no more than the largest charge, over any divisor of at least 360000
+pub charge-over-le : (divisor : ℕ) (t : Terms) (short : ℕ) → 360000 ≤ divisor → TermsIn t → short ≤ mostKilowatts
+    → chargeOver divisor t short ≤ mostCharge
+unfolding chargeOver
+charge-over-le divisor t short wide i k = quotient-le {d = 360000} (omega arith) wide (charge-product-le t short i k)
+
+-- and so no charge before the cut is larger
+pub full-charge-le : (t : Terms) (short : ℕ) → TermsIn t → short ≤ mostKilowatts → fullCharge t short ≤ mostCharge
+unfolding fullCharge divisors
+full-charge-le t short i k = charge-over-le 360000 t short (omega arith) i k
+
+-- a charge is at most the charge before the cut
+pub charge-le-full : (t : Terms) (a : Account) (short : ℕ) → charge t a short ≤ fullCharge t short
+unfolding charge
+charge-le-full t a short = omega arith
+
+-- on terms within their bounds and for at most the most kW it is at most the largest charge
+pub charge-most : (t : Terms) (a : Account) (short : ℕ) → TermsIn t → short ≤ mostKilowatts → charge t a short ≤ mostCharge
+charge-most t a short i k = omega (arith, charge-le-full t a short, full-charge-le t short i k)
 
 -- a charge to a raised account is at most what is left under its limit
-pub charge-le : (t : Terms) (r : Row) (a : Account) (short : ℕ) → charge t (raised r a) short ≤ limit t (max (a .largest) (r .committed)) - a .charged
+pub charge-le : (t : Terms) (kw : ℕ) (a : Account) (short : ℕ)
+    → charge t (raised kw a) short ≤ limit t (max (a .largest) kw) - a .charged
 unfolding charge raised
-charge-le t r a short = omega arith
+charge-le t kw a short = omega arith

@@ -1,18 +1,23 @@
 -- The shares of a pool, each rounded down: together at most the pool, and the rest is less than the number of shares above 0.
 use Prim.Native.Nat.{ℕ, _+_, _*_, _/_, _<_, _≤_}
-use mathlib.Core.Path.{_≡_, refl, sym, ap, _∙_, subst}
-use mathlib.Core.List.{List, [], _∷_, Memᴰ·of-map}
+use mathlib.Core.Path.{_≡_, refl, ap, _∙_}
+use mathlib.Core.List.{List, [], _∷_}
 use mathlib.Core.Bool.{Bool, true, false, cond}
-use native.Mathlib.Nat.{div-mul-le-self, lt-div-mul-add, mul-le-mul-right, le-of-mul-le-mul-right, lt-of-mul-lt-mul-right, zero-mul, zero-div}
+use native.Mathlib.Nat.{
+  div-mul-le-self,
+  lt-div-mul-add,
+  mul-le-mul-right,
+  le-of-mul-le-mul-right,
+  lt-of-mul-lt-mul-right,
+  zero-mul,
+  zero-div,
+}
 use native.Mathlib.Omega.{arith}
 use lib.Dec.{ltb, eqb}
 use borrow.Author.Tests.{ltb-false, eqb-false, ne-eqb}
 use Rattle.words.specs.Lists.{sum}
-use Rattle.words.proofs.Lists.{sum-zero, sum-le, sum-same}
-use Rattle.reading.specs.Block.{Terms}
-use Rattle.reading.specs.Interval.{Header, Row}
-use Rattle.assessment.specs.Assessment.{considered, ifConsidered, Ratio, ratioOf, expected, bonus, rowFigures, Account, chargedRow, Assessed, assessed, totalBonus, pool, share, credit, credits, carriedOn}
-use Rattle.assessment.proofs.Promises.{if-le}
+use Rattle.words.proofs.Lists.{sum-zero}
+use Rattle.assessment.specs.Assessment.{Assessed, totalBonus, pool, share, credit, credits, carriedOn}
 
 -- where some weight is above 0, one is counted
 counted : {A : Type 0} (w : A → ℕ) (xs : List A) → 0 < sum w xs → 0 < sum (λ x. cond (ltb 0 (w x)) 1 0) xs
@@ -53,7 +58,7 @@ module _ {A : Type 0} (w : A → ℕ) (cents : ℕ) (xs : List A) where
   abbrev whole : ℕ
   whole = sum w xs
 
-  -- where the weights come to 0, nothing is shared
+  -- where the weights add up to 0, nothing is shared
   none-shared : eqb whole 0 ≡ true → sum (λ x. share cents whole (w x)) xs ≡ 0
   unfolding share
   none-shared e = ap (λ (t : Bool). sum (λ x. cond t 0 (w x * cents / whole)) xs) e ∙ sum-zero xs
@@ -63,7 +68,7 @@ module _ {A : Type 0} (w : A → ℕ) (cents : ℕ) (xs : List A) where
   unfolding share
   all-shared e = ap (λ (t : Bool). sum (λ x. cond t 0 (w x * cents / whole)) xs) e
 
-  -- the shares come to no more than the cents
+  -- the shares add up to at most the cents
   pub shared-le : sum (λ x. share cents whole (w x)) xs ≤ cents
   shared-le = by (eqb whole 0) refl
     where
@@ -85,7 +90,7 @@ module _ {A : Type 0} (w : A → ℕ) (cents : ℕ) (xs : List A) where
       lt-of-mul-lt-mul-right whole k
 
 -- a share of no bonus is none
-share-zero : (cents total : ℕ) → share cents total 0 ≡ 0
+pub share-zero : (cents total : ℕ) → share cents total 0 ≡ 0
 unfolding share
 share-zero cents total = by (eqb total 0)
   where
@@ -93,36 +98,14 @@ share-zero cents total = by (eqb total 0)
     by true = refl
     by false = rw (zero-mul cents) (zero-div total)
 
--- an interval's credits are at most its pool
-pub credits-le : (v : Assessed) → credits v ≤ pool v
-unfolding credits credit totalBonus
-credits-le v =
-    let given = sum-le (credit v) (λ c. share (pool v) (totalBonus v) (c .figures .bonus)) (v .rows) (λ c. if-le (c .row) (share (pool v) (totalBonus v) (c .figures .bonus))) in
-    omega (arith, given, shared-le (λ c. c .figures .bonus) (pool v) (v .rows))
-
--- a row not considered has no bonus, and so no share to be denied
-pub credit-is-share : (v : Assessed) (t : Terms) (accounts : List Account) (q : Ratio) (r : Row)
-    → credit v (chargedRow t accounts q r) ≡ share (pool v) (totalBonus v) (chargedRow t accounts q r .figures .bonus)
-unfolding credit chargedRow rowFigures ifConsidered
-credit-is-share v t accounts q r = by (considered r)
-  where
-    by : (b : Bool) → cond b (share (pool v) (totalBonus v) (cond b (bonus r (expected q r)) 0)) 0 ≡ share (pool v) (totalBonus v) (cond b (bonus r (expected q r)) 0)
-    by true = refl
-    by false = sym (share-zero (pool v) (totalBonus v))
-
-module _ (t : Terms) (accounts : List Account) (carried : ℕ) (h : Header) (rs : List Row) where
-  -- the interval that the rows make on these terms, accounts and carried cents
-  abbrev v : Assessed
-  v = assessed t accounts carried h rs
-
-  -- the credits of an interval are the shares of its pool
-  credits-shared : credits v ≡ sum (λ c. share (pool v) (totalBonus v) (c .figures .bonus)) (v .rows)
-  unfolding credits assessed
-  credits-shared = sum-same (credit v) (λ c. share (pool v) (totalBonus v) (c .figures .bonus)) (v .rows)
-      (λ c m. let (r, _, e) = Memᴰ·of-map (chargedRow t accounts (ratioOf h rs)) rs m in
-      subst (λ c. credit v c ≡ share (pool v) (totalBonus v) (c .figures .bonus)) e (credit-is-share v t accounts (ratioOf h rs) r))
+-- an interval
+module _ (v : Assessed) where
+  -- its credits are at most its pool
+  pub credits-le : credits v ≤ pool v
+  unfolding credits credit totalBonus
+  credits-le = shared-le (λ c. c .figures .bonus) (pool v) (v .rows)
 
   -- with bonus, fewer cents are carried on than there are rows with bonus
   pub carried-lt : 0 < totalBonus v → carriedOn v < sum (λ c. cond (ltb 0 (c .figures .bonus)) 1 0) (v .rows)
-  unfolding carriedOn totalBonus
-  carried-lt some = omega (arith, credits-le v, credits-shared, rest-lt (λ c. c .figures .bonus) (pool v) (v .rows) some)
+  unfolding carriedOn credits credit totalBonus
+  carried-lt some = omega (arith, credits-le, rest-lt (λ c. c .figures .bonus) (pool v) (v .rows) some)

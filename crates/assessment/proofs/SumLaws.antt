@@ -1,45 +1,71 @@
--- One pass over the rows of a file: what each turn needs of a row.
-use Prim.Native.Nat.{ℕ, _+_, _-_, _*_, _≤_, _<_}
-use mathlib.Core.Path.{_≡_, refl, ap, _∙_}
-use mathlib.Core.List.{List, []}
-use mathlib.Core.Bool.{false}
+-- One pass over the rows of a file: what is added to both sides of the ratio, and what is left to add.
+use Prim.Native.Nat.{ℕ, _+_, _*_, _≤_, _<_}
+use mathlib.Core.Path.{_≡_, ap, _∙_}
+use mathlib.Core.List.{List}
 use native.Mathlib.Omega.{arith}
-use lib.ListN.{length, take, drop, length-drop}
-use borrow.Rule.Slice.PartAt.{part-to-end}
-use Rattle.words.specs.Words.{word32}
-use Rattle.reading.specs.Interval.{rowBytes, Row, kindOf, headerOf, rowAt, rowOf}
-use Rattle.assessment.specs.Assessment.{denominatorShareAs, denominatorShare}
-use Rattle.assessment.proofs.KindLaws.{each-kind}
-use Rattle.reading.proofs.Walk.{part-at, rowPart, fails, points-within}
+use Rattle.words.specs.Lists.{sum}
+use Rattle.words.proofs.Lists.{sum-start, sum-turn, sum-end}
+use Rattle.reading.specs.Interval.{mostKilowatts, mostImports, RowWords, headerOf, rowWordsAt, rowOf, rowsOf}
+use Rattle.reading.specs.Values.{headerIn, HeaderRead, Tabled}
+use Rattle.reading.specs.declared.header.Header.{Header as HeaderValue}
+use Rattle.reading.proofs.RowsLeft.{rowsLeft, rows-start}
+use Rattle.reading.proofs.Facts.{next-row, no-row}
+use Rattle.assessment.specs.Assessment.{
+  numeratorShare,
+  importShare,
+  numerator,
+  denominatorShare,
+  denominator,
+  ratioOf,
+}
+use Rattle.assessment.specs.Values.{mostActual, mostNumerator}
 
--- what a row adds to the denominator does not depend on its points
-denominator-without-points : (b p q : List ℕ) → denominatorShare (rowAt b p) ≡ denominatorShare (rowAt b q)
-unfolding denominatorShareAs denominatorShare rowAt
-denominator-without-points b p q = each-kind (λ k. denominatorShareAs k (rowAt b p) ≡ denominatorShareAs k (rowAt b q)) refl refl refl refl refl refl (kindOf (word32 b 1))
+-- before row i: both sides, with the shares of the rows that are left, are the file's; and they are bounded by i
+pub record Summed (f : List ℕ) (h : HeaderValue) (i above below : ℕ) : Type 0 where
+  pub within : i ≤ h .rows
+  pub adds-above : above + sum (numeratorShare (h .«region_wide»)) (rowsLeft f i) ≡ numerator (headerIn h) (rowsOf f)
+  pub adds-below : below + sum denominatorShare (rowsLeft f i) ≡ denominator (rowsOf f)
+  pub most-above : above ≤ mostImports + mostActual * i
+  pub most-below : below ≤ mostKilowatts * i
 
-module _ (f : List ℕ) where
-  -- a part of the file to its end
-  abbrev pub partFrom : ℕ → List ℕ
-  partFrom at = take (length f - at) (drop at f)
+module _ {f : List ℕ} {h : HeaderValue} where
+  -- before the first row, the imports are added
+  pub summed-start : {imports : ℕ} → imports ≡ importShare (headerIn h) → imports ≤ mostImports
+      → Summed f h 0 imports 0
+  unfolding numerator denominator headerIn
+  summed-start is most =
+      let all = ap (sum (numeratorShare (h .«region_wide»))) (rows-start f) in
+      record {
+        within = omega arith;
+        adds-above = omega (arith, is, all);
+        adds-below = sum-start denominatorShare (rows-start f);
+        most-above = omega arith;
+        most-below = omega arith;
+      }
 
-  -- such a part has as many bytes as the file has from there on
-  pub part-length : (at : ℕ) → length (partFrom at) ≡ length f - at
-  part-length at = ap length (part-to-end f at) ∙ length-drop at f
+  -- the shares of row i are added
+  pub summed-turn : HeaderRead f h → {i above below : ℕ} → Summed f h i above below
+      → i < h .rows → {w : RowWords} → w ≡ rowWordsAt f i
+      → (more less : ℕ) → more ≡ numeratorShare (h .«region_wide») (rowOf f w) → more ≤ mostActual
+      → less ≡ denominatorShare (rowOf f w) → less ≤ mostKilowatts
+      → Summed f h (i + 1) (above + more) (below + less)
+  summed-turn read {i} {above} {below} s here word more less is-more most-more is-less most-less =
+      let turn = next-row read i here word in
+      record {
+        within = omega arith;
+        adds-above = sum-turn (numeratorShare (h .«region_wide»)) above _ more turn (s .adds-above) is-more;
+        adds-below = sum-turn denominatorShare below _ less turn (s .adds-below) is-less;
+        most-above = omega (arith, s);
+        most-below = omega (arith, s);
+      }
 
-  -- where the table of points ends within the file, so do the points of such a row
-  pub curve-within : (i at : ℕ) → at ≡ headerOf f .rowsOffset + rowBytes * i → fails f (rowOf f (rowPart f i)) ≡ false
-      → headerOf f .pointsOffset + 8 * headerOf f .pointCount ≤ length f → 0 < word32 (partFrom at) 13
-      → headerOf f .pointsOffset + 8 * (word32 (partFrom at) 12 + word32 (partFrom at) 13) ≤ length f
-  curve-within i at place e table =
-      rw (part-at f at (headerOf f .rowsOffset + rowBytes * i) place) (λ some. omega (arith, points-within f i e some, table))
-
-  -- a figure of the row in two parts of the file is that of the row of the file
-  pub row-in-parts : (g : Row → ℕ) (i at curve share : ℕ) → at ≡ headerOf f .rowsOffset + rowBytes * i
-      → rowAt (partFrom at) (drop curve f) ≡ rowOf f (partFrom at) → share ≡ g (rowAt (partFrom at) (partFrom curve)) → share ≡ g (rowOf f (rowPart f i))
-  row-in-parts g i at curve share place same e =
-      e ∙ ap (λ p. g (rowAt (partFrom at) p)) (part-to-end f curve) ∙ ap g same ∙ ap (λ b. g (rowOf f b)) (part-at f at (headerOf f .rowsOffset + rowBytes * i) place)
-
-  -- the same of what a row adds to the denominator, computed without its points
-  pub denominator-in-parts : (i at curve share : ℕ) → at ≡ headerOf f .rowsOffset + rowBytes * i
-      → rowAt (partFrom at) (drop curve f) ≡ rowOf f (partFrom at) → share ≡ denominatorShare (rowAt (partFrom at) []) → share ≡ denominatorShare (rowOf f (rowPart f i))
-  denominator-in-parts i at curve share place same e = row-in-parts denominatorShare i at curve share place same (e ∙ denominator-without-points (partFrom at) [] (partFrom curve))
+  -- with no row left, they are the ratio
+  pub summed-end : Tabled f h → {i above below : ℕ} → Summed f h i above below → h .rows ≤ i
+      → (record { numerator = above; denominator = below } ≡ ratioOf (headerOf f) (rowsOf f)) × (above ≤ mostNumerator)
+  unfolding ratioOf
+  summed-end t {i} {above} {below} s done =
+      let none = no-row (t .read) i done in
+      let sum-above = sum-end (numeratorShare (h .«region_wide»)) above _ none (s .adds-above) in
+      let up = sum-above ∙ ap (λ h. numerator h (rowsOf f)) (t .read .says) in
+      let down = sum-end denominatorShare below _ none (s .adds-below) in
+      (λ j. record { numerator = up j; denominator = down j }, omega (arith, s, t))

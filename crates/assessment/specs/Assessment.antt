@@ -17,13 +17,9 @@ wholeRatio = 1000000
 abbrev pub limitFactor : ℕ
 limitFactor = 3
 
--- of the limit: 2 from the three halves, and 1000 kW to the MW
-abbrev pub limitDivisor : ℕ
-limitDivisor = 2000
-
--- of a charge: 1000 kW to the MW, 30 hours, 12 intervals an hour
-abbrev pub chargeDivisor : ℕ
-chargeDivisor = 360000
+-- the most cents of a pool, and so the most carried
+abbrev pub mostCents : ℕ
+mostCents = 1099511627775
 
 -- a signed number, or 0 if it is negative
 unfoldable pub orZero : ℤ → ℕ
@@ -76,22 +72,30 @@ unfoldable pub firstKw : List Point → ℕ
 firstKw [] = 0
 firstKw (p ∷ ps) = p .kw
 
--- Considered: every row of a kind; of PRD rows only those whose last point at or below the LMP is above 0 kW
-unfoldable pub consideredAs : Kind → Row → Bool
-consideredAs generation r = true
-consideredAs demand r = true
-consideredAs efficiency r = true
-consideredAs responsive r = ltb 0 (firstKw (fromLastReached (r .lmp) (r .curve)))
-consideredAs energyOnly r = true
-consideredAs noKind r = false
+-- what bonus is cut to
+unfoldable pub bonusCut : Row → ℕ
+bonusCut r = scheduled r
+
+-- the scheduled kW that the economic rule takes
+unfoldable pub economicScheduled : Row → ℕ
+economicScheduled r = scheduled r
+
+-- Considered in an event whose region-wide word is given: every row of a kind; of PRD rows only those whose last point at or below the LMP is above 0 kW
+unfoldable pub consideredAs : Kind → ℕ → Row → Bool
+consideredAs generation regionWide r = true
+consideredAs demand regionWide r = true
+consideredAs efficiency regionWide r = true
+consideredAs responsive regionWide r = ltb 0 (firstKw (fromLastReached (r .lmp) (r .curve)))
+consideredAs energyOnly regionWide r = true
+consideredAs noKind regionWide r = false
 
 -- Considered, by the kind word
-unfoldable pub considered : Row → Bool
-considered r = consideredAs (kindOf (r .kind)) r
+unfoldable pub considered : ℕ → Row → Bool
+considered regionWide r = consideredAs (kindOf (r .kind)) regionWide r
 
--- a word of a row in the result: all eight are 0 if the row is not considered
-unfoldable pub ifConsidered : Row → ℕ → ℕ
-ifConsidered r word = cond (considered r) word 0
+-- a figure of a row, 0 if the row is not considered
+unfoldable pub ifConsidered : ℕ → Row → ℕ → ℕ
+ifConsidered regionWide r figure = cond (considered regionWide r) figure 0
 
 -- the two sides of the balancing ratio
 pub record Ratio : Type 0 where
@@ -115,13 +119,13 @@ expectedAs noKind q r = 0
 unfoldable pub expected : Ratio → Row → ℕ
 expected q r = expectedAs (kindOf (r .kind)) q r
 
--- the actual that a bonus is taken from: for kinds 0 and 4 first cut to the scheduled kW
+-- the actual that a bonus is taken from: for kinds 0 and 4 first cut
 unfoldable pub bonusActualAs : Kind → Row → ℕ
-bonusActualAs generation r = min (actual r) (scheduled r)
+bonusActualAs generation r = min (actual r) (bonusCut r)
 bonusActualAs demand r = actual r
 bonusActualAs efficiency r = actual r
 bonusActualAs responsive r = actual r
-bonusActualAs energyOnly r = min (actual r) (scheduled r)
+bonusActualAs energyOnly r = min (actual r) (bonusCut r)
 bonusActualAs noKind r = 0
 
 -- Bonus, of a row of which so many kW are expected: actual minus expected where positive
@@ -137,9 +141,9 @@ numeratorShareAs responsive r = bonus r (r .committed)
 numeratorShareAs energyOnly r = actual r
 numeratorShareAs noKind r = 0
 
--- the same by the kind word; a PRD row not considered adds nothing
-unfoldable pub numeratorShare : Row → ℕ
-numeratorShare r = ifConsidered r (numeratorShareAs (kindOf (r .kind)) r)
+-- the same by the kind word; a row not considered adds nothing
+unfoldable pub numeratorShare : ℕ → Row → ℕ
+numeratorShare regionWide r = ifConsidered regionWide r (numeratorShareAs (kindOf (r .kind)) r)
 
 -- what the net imports add: only when region-wide, if positive
 unfoldable pub importShare : Header → ℕ
@@ -147,7 +151,7 @@ importShare h = cond (eqb (h .regionWide) 1) (orZero (h .imports)) 0
 
 -- Numerator
 unfoldable pub numerator : Header → List Row → ℕ
-numerator h rs = sum numeratorShare rs + importShare h
+numerator h rs = sum (numeratorShare (h .regionWide)) rs + importShare h
 
 -- what a row adds to the denominator: the committed kW of kind 0
 unfoldable pub denominatorShareAs : Kind → Row → ℕ
@@ -187,9 +191,13 @@ outageAs noKind r = 0
 unfoldable pub outage : Row → ℕ
 outage r = outageAs (kindOf (r .kind)) r
 
--- how far the least of emergency maximum, expected, and owned without both outages stands above the greater of scheduled and actual
+-- owned minus both outages, at least 0
+unfoldable pub available : Row → ℕ
+available r = r .owned - (r .planned + r .forced)
+
+-- the least of emergency maximum, expected and available, minus the greater of scheduled and actual; 0 if negative
 unfoldable pub economicRule : Row → ℕ → ℕ
-economicRule r expect = min (r .maximum) (min expect (r .owned - (r .planned + r .forced))) - max (scheduled r) (actual r)
+economicRule r expect = min (r .maximum) (min expect (available r)) - max (economicScheduled r) (actual r)
 
 -- Economic, of a row of which so many kW are expected: by that rule for kinds 0 and 4, else 0
 unfoldable pub economicAs : Kind → Row → ℕ → ℕ
@@ -217,17 +225,17 @@ pub record RowFigures : Type 0 where
   pub shortfall : ℕ
   pub bonus : ℕ
 
--- a row's figures at a ratio
-unfoldable pub rowFigures : Ratio → Row → RowFigures
-rowFigures q r =
+-- a row's figures in an event, at a ratio; all are 0 if the row is not considered
+unfoldable pub rowFigures : ℕ → Ratio → Row → RowFigures
+rowFigures regionWide q r =
     let expect = expected q r in
     record {
-      expected = ifConsidered r expect;
-      actual = ifConsidered r (actual r);
-      outage = ifConsidered r (outage r);
-      economic = ifConsidered r (economic r expect);
-      shortfall = ifConsidered r (shortfall r expect);
-      bonus = ifConsidered r (bonus r expect);
+      expected = ifConsidered regionWide r expect;
+      actual = ifConsidered regionWide r (actual r);
+      outage = ifConsidered regionWide r (outage r);
+      economic = ifConsidered regionWide r (economic r expect);
+      shortfall = ifConsidered regionWide r (shortfall r expect);
+      bonus = ifConsidered regionWide r (bonus r expect);
     }
 
 -- an account: id, largest commitment so far, charged, credited
@@ -246,17 +254,38 @@ unfoldable pub accountOf : ℕ → List Account → Account
 accountOf i [] = emptyAccount i
 accountOf i (a ∷ rest) = cond (eqb (a .id) i) a (accountOf i rest)
 
--- an account whose largest commitment a row has raised to its committed kW, if that is larger
-unfoldable pub raised : Row → Account → Account
-raised r a = record { id = a .id; largest = max (a .largest) (r .committed); charged = a .charged; credited = a .credited }
+-- an account whose largest commitment is raised to so many kW, if that is larger
+unfoldable pub raised : ℕ → Account → Account
+raised kw a = record { id = a .id; largest = max (a .largest) kw; charged = a .charged; credited = a .credited }
 
--- Limit, for a largest commitment of so many kW, rounded down
+-- an account with a charge and a credit added
+unfoldable pub added : ℕ → ℕ → Account → Account
+added charge credit a = record { id = a .id; largest = a .largest; charged = a .charged + charge; credited = a .credited + credit }
+
+-- the divisors of a year's limits and charges
+pub record Divisors : Type 0 where
+  pub limit : ℕ
+  pub charge : ℕ
+
+-- of a limit: 2 from the three halves, and 1000 kW to the MW; of a charge: 1000 kW to the MW, 30 hours, 12 intervals an hour
+unfoldable pub divisors : Terms → Divisors
+divisors t = record { limit = 2000; charge = 360000 }
+
+-- three times Net CONE times days times kW over a divisor, rounded down
+unfoldable pub limitOver : ℕ → Terms → ℕ → ℕ
+limitOver divisor t kw = limitFactor * t .netCone * t .days * kw / divisor
+
+-- Limit, for a largest commitment of so many kW
 unfoldable pub limit : Terms → ℕ → ℕ
-limit t kw = limitFactor * t .netCone * t .days * kw / limitDivisor
+limit t kw = limitOver (divisors t .limit) t kw
 
--- the charge for a shortfall before the limit cuts it, rounded down
+-- shortfall times Net CONE times days over a divisor, rounded down
+unfoldable pub chargeOver : ℕ → Terms → ℕ → ℕ
+chargeOver divisor t short = short * t .netCone * t .days / divisor
+
+-- the charge for a shortfall before the limit cuts it
 unfoldable pub fullCharge : Terms → ℕ → ℕ
-fullCharge t short = short * t .netCone * t .days / chargeDivisor
+fullCharge t short = chargeOver (divisors t .charge) t short
 
 -- Charge, for a shortfall, to an account that the row has raised: cut to what is left under the limit
 unfoldable pub charge : Terms → Account → ℕ → ℕ
@@ -268,11 +297,11 @@ pub record ChargedRow : Type 0 where
   pub figures : RowFigures
   pub charge : ℕ
 
--- a row, with its charge to its account as it stood before the interval
-unfoldable pub chargedRow : Terms → List Account → Ratio → Row → ChargedRow
-chargedRow t accounts q r =
-    let figures = rowFigures q r in
-    record { row = r; figures = figures; charge = ifConsidered r (charge t (raised r (accountOf (r .id) accounts)) (figures .shortfall)) }
+-- a row of an event, with its charge to its account as it stood before the interval; one not considered has no shortfall, and so no charge
+unfoldable pub chargedRow : Terms → List Account → ℕ → Ratio → Row → ChargedRow
+chargedRow t accounts regionWide q r =
+    let figures = rowFigures regionWide q r in
+    record { row = r; figures = figures; charge = charge t (raised (r .committed) (accountOf (r .id) accounts)) (figures .shortfall) }
 
 -- an interval: the ratio, the charged rows in file order, and the cents carried into it
 pub record Assessed : Type 0 where
@@ -284,7 +313,7 @@ pub record Assessed : Type 0 where
 unfoldable pub assessed : Terms → List Account → ℕ → Header → List Row → Assessed
 assessed t accounts carried h rs =
     let q = ratioOf h rs in
-    record { ratio = q; rows = map (chargedRow t accounts q) rs; carried = carried }
+    record { ratio = q; rows = map (chargedRow t accounts (h .regionWide) q) rs; carried = carried }
 
 -- charges: the sum over an interval's rows
 unfoldable pub charges : Assessed → ℕ
@@ -302,9 +331,9 @@ pool v = v .carried + charges v
 unfoldable pub share : ℕ → ℕ → ℕ → ℕ
 share cents total kw = cond (eqb total 0) 0 (kw * cents / total)
 
--- Credit, of one row
+-- Credit, of one row; one not considered has no bonus, and so no credit
 unfoldable pub credit : Assessed → ChargedRow → ℕ
-credit v c = ifConsidered (c .row) (share (pool v) (totalBonus v) (c .figures .bonus))
+credit v c = share (pool v) (totalBonus v) (c .figures .bonus)
 
 -- credits: the sum over an interval's rows
 unfoldable pub credits : Assessed → ℕ

@@ -1,16 +1,70 @@
 -- Worked figures of the rules: what the definitions give, beside what it must be.
-use Prim.Native.Nat.{ℕ}
+use Prim.Native.Nat.{ℕ, suc}
 use mathlib.Core.List.{List, [], _∷_}
 use lib.IntN.{ℤ, pos, negsuc}
 use Rattle.words.specs.Figures.{Figure, _gives_, AllAsStated, test}
 use Rattle.reading.specs.Block.{Terms}
 use Rattle.reading.specs.Interval.{Point, Row}
-use Rattle.reading.specs.Figures.{headerWith, rowWith, at}
-use Rattle.assessment.specs.Assessment.{Ratio, RowFigures, Account, ChargedRow, Assessed, actual, fromLastReached, firstKw, scheduled, considered, expected, bonus, numeratorShare, numerator, denominator, ratioOf, printedRatio, outage, economic, rowFigures, raised, limit, fullCharge, charge, chargedRow, pool, credit, credits, carriedOn}
+use Rattle.reading.specs.Figures.{headerWith, at}
+use Rattle.assessment.specs.Assessment.{
+  Ratio,
+  RowFigures,
+  Account,
+  ChargedRow,
+  Assessed,
+  actual,
+  fromLastReached,
+  firstKw,
+  scheduled,
+  bonusCut,
+  economicScheduled,
+  considered,
+  expected,
+  bonus,
+  numeratorShare,
+  numerator,
+  denominator,
+  ratioOf,
+  printedRatio,
+  outage,
+  available,
+  economic,
+  rowFigures,
+  raised,
+  added,
+  limit,
+  fullCharge,
+  charge,
+  chargedRow,
+  pool,
+  credit,
+  credits,
+  carriedOn,
+}
+use Rattle.assessment.specs.Values.{mostCharge}
 
--- a row of id 1, without adjustment: kind, committed, owned, metered, planned, forced, maximum, minimum, online, LMP and curve
+-- a row of id 1: kind, committed, owned, metered, adjustment, planned, forced, maximum, minimum, online, LMP and curve
+abbrev pub adjusted : ℕ → ℕ → ℕ → ℤ → ℤ → ℕ → ℕ → ℕ → ℕ → ℕ → ℤ → List Point → Row
+adjusted kind committed owned metered adjustment planned forced maximum minimum online lmp curve = record {
+  id = 1;
+  kind = kind;
+  committed = committed;
+  owned = owned;
+  metered = metered;
+  adjustment = adjustment;
+  planned = planned;
+  forced = forced;
+  maximum = maximum;
+  minimum = minimum;
+  online = online;
+  lmp = lmp;
+  curve = curve;
+}
+
+-- a row without adjustment
 abbrev pub row : ℕ → ℕ → ℕ → ℤ → ℕ → ℕ → ℕ → ℕ → ℕ → ℤ → List Point → Row
-row kind committed owned metered planned forced maximum minimum online lmp curve = rowWith kind committed owned metered (pos 0) planned forced maximum minimum online lmp 0 curve
+row kind committed owned metered planned forced maximum minimum online lmp curve =
+    adjusted kind committed owned metered (pos 0) planned forced maximum minimum online lmp curve
 
 -- curve A
 unfoldable pub curveA : List Point
@@ -57,8 +111,8 @@ provedFigures =
     ∷ scheduled (onA 1 (pos 5001)) gives 110000
     ∷ scheduled (onA 0 (pos 999)) gives 0
     ∷ scheduled (row 0 0 0 (pos 0) 0 0 10 0 1 (negsuc 298) (at (negsuc 299) 0 ∷ at (negsuc 292) 10 ∷ [])) gives 1
-    ∷ test (considered (prd (pos 1999))) gives 0
-    ∷ test (considered (prd (pos 2000))) gives 1
+    ∷ test (considered 0 (prd (pos 1999))) gives 0
+    ∷ test (considered 0 (prd (pos 2000))) gives 1
     ∷ charge (terms 1) (account 4000000 0) 986 gives 0
     ∷ charge (terms 1) (account 4000000 0) 987 gives 1
     ∷ limit (terms 30000) 1 gives 16425
@@ -81,7 +135,7 @@ row11 = row 0 100000 110000 (pos 60000) 10000 0 110000 20000 1 (pos 3000) curveA
 
 -- row 12
 unfoldable pub row12 : Row
-row12 = rowWith 0 50000 60000 (pos 20000) (pos 5000) 0 35000 25000 10000 1 (pos 6001) 0 (at (pos 1000) 10000 ∷ at (pos 6000) 50000 ∷ [])
+row12 = adjusted 0 50000 60000 (pos 20000) (pos 5000) 0 35000 25000 10000 1 (pos 6001) (at (pos 1000) 10000 ∷ at (pos 6000) 50000 ∷ [])
 
 -- row 13
 unfoldable pub row13 : Row
@@ -101,11 +155,11 @@ at60 kind owned metered planned forced maximum = row kind 100000 owned metered p
 
 -- committed 100000 at ratio 1, owned 110000, forced 30000, maximum 110000, scheduled 60000, actual 50000
 unfoldable pub withForced : RowFigures
-withForced = rowFigures (over 1 1) (at60 0 110000 (pos 50000) 0 30000 110000)
+withForced = rowFigures 0 (over 1 1) (at60 0 110000 (pos 50000) 0 30000 110000)
 
 -- the same with its outage planned, and so many kW owned
 unfoldable pub withPlanned : ℕ → RowFigures
-withPlanned owned = rowFigures (over 1 1) (at60 0 owned (pos 50000) 30000 0 110000)
+withPlanned owned = rowFigures 0 (over 1 1) (at60 0 owned (pos 50000) 30000 0 110000)
 
 -- a row of a kind with a commitment, and nothing else
 abbrev pub onKind : ℕ → ℕ → Row
@@ -119,16 +173,22 @@ eachKind = onKind 0 1 ∷ onKind 1 10 ∷ onKind 2 100 ∷ onKind 3 1000 ∷ onK
 unfoldable pub unshared : Assessed
 unshared = record { ratio = over 0 0; rows = withBonus 0 ∷ []; carried = 557628 }
 
--- a PRD row of 3000 kW that is not considered, with a shortfall or a bonus to deny by what is metered, and its charge at 30000 cents
-unfoldable pub denied : ℤ → ChargedRow
-denied metered = chargedRow (terms 30000) (account 3000 0 ∷ []) (over 1 1) (row 3 3000 0 metered 0 0 0 0 0 (pos 499) (at (pos 500) 5 ∷ []))
+-- a PRD row of 3000 kW with one point at 500 cents, of which the LMP and the metered kW are given, charged at 30000 cents
+unfoldable pub onePoint : ℤ → ℤ → ChargedRow
+onePoint lmp metered =
+    chargedRow (terms 30000) (account 3000 0 ∷ []) 0 (over 1 1) (row 3 3000 0 metered 0 0 0 0 0 lmp (at (pos 500) 5 ∷ []))
+
+-- a demand resource 1 kW short of a commitment, charged at 30000 cents to an account with a largest commitment and 16400 cents charged
+unfoldable pub oneShort : ℕ → ℕ → ChargedRow
+oneShort committed largest =
+    chargedRow (terms 30000) (account largest 16400 ∷ []) 0 (over 1 1) (row 1 (suc committed) 0 (pos committed) 0 0 0 0 0 (pos 0) [])
 
 -- figures that tell each rule from the wrong ones nearest to it, in document 01's order
 unfoldable pub workedFigures : List Figure
 workedFigures =
     -- actual: a sum of signed numbers, and 0 if that is negative
-    actual (rowWith 0 0 0 (negsuc 2999) (pos 5000) 0 0 0 0 0 (pos 0) 0 []) gives 2000
-    ∷ actual (rowWith 0 0 0 (negsuc 4) (pos 2) 0 0 0 0 0 (pos 0) 0 []) gives 0
+    actual (adjusted 0 0 0 (negsuc 2999) (pos 5000) 0 0 0 0 0 (pos 0) []) gives 2000
+    ∷ actual (adjusted 0 0 0 (negsuc 4) (pos 2) 0 0 0 0 0 (pos 0) []) gives 0
     ∷ actual row12 gives 25000
     -- scheduled: with no points the committed kW, neither raised nor cut
     ∷ scheduled (row 0 7 0 (pos 0) 0 0 5 0 1 (pos 0) []) gives 7
@@ -143,15 +203,23 @@ workedFigures =
     ∷ scheduled (row 0 0 0 (pos 0) 0 0 110000 70000 0 (pos 3001) curveA) gives 60020
     ∷ scheduled (row 0 0 0 (pos 0) 0 0 110000 70000 1 (pos 3001) curveA) gives 70000
     ∷ scheduled (row 0 0 0 (pos 0) 0 0 50000 0 0 (pos 3001) curveA) gives 50000
-    -- PRD without points is never considered
-    ∷ test (considered (row 3 1 0 (pos 0) 0 0 0 0 0 (pos 1000000) [])) gives 0
+    -- bonus is cut to it, and the economic rule takes it
+    ∷ bonusCut (onA 1 (pos 3001)) gives 60020
+    ∷ economicScheduled (onA 1 (pos 3001)) gives 60020
+    -- PRD without points is never considered, and a row is not considered for a region-wide event alone
+    ∷ test (considered 0 (row 3 1 0 (pos 0) 0 0 0 0 0 (pos 1000000) [])) gives 0
+    ∷ test (considered 1 (prd (pos 1999))) gives 0
     -- a PRD row not considered: words that are 0, and a commitment raised all the same
-    ∷ denied (pos 1000) .figures .expected gives 0
-    ∷ denied (pos 1000) .figures .actual gives 0
-    ∷ denied (pos 1000) .figures .shortfall gives 0
-    ∷ denied (pos 1000) .charge gives 0
-    ∷ denied (pos 5000) .figures .bonus gives 0
-    ∷ raised (prd (pos 1999)) (account 2000 0) .largest gives 3000
+    ∷ onePoint (pos 499) (pos 1000) .figures .expected gives 0
+    ∷ onePoint (pos 499) (pos 1000) .figures .actual gives 0
+    ∷ onePoint (pos 499) (pos 1000) .figures .shortfall gives 0
+    ∷ onePoint (pos 499) (pos 1000) .charge gives 0
+    ∷ onePoint (pos 499) (pos 5000) .figures .bonus gives 0
+    ∷ credit shared (onePoint (pos 499) (pos 5000)) gives 0
+    ∷ raised (prd (pos 1999) .committed) (account 2000 0) .largest gives 3000
+    -- what it would be charged and credited if it were
+    ∷ onePoint (pos 500) (pos 1000) .charge gives 60833
+    ∷ credit shared (onePoint (pos 500) (pos 5000)) gives 27880
     -- the ratio touches kind 0 alone: kinds 1, 2 and 3 are expected to give what they committed, kind 4 nothing
     ∷ expected (over 1 2) (onKind 1 1000) gives 1000
     ∷ expected (over 1 2) (onKind 2 1000) gives 1000
@@ -164,13 +232,13 @@ workedFigures =
     ∷ bonus (at60 3 0 (pos 70000) 0 0 110000) 50000 gives 20000
     ∷ bonus (at60 4 0 (pos 70000) 0 0 110000) 0 gives 60000
     -- the numerator takes the actual of kinds 0 and 4 uncut, the bonus of kinds 1 and 3, and nothing of kind 2
-    ∷ numeratorShare (at60 0 0 (pos 70000) 0 0 110000) gives 70000
-    ∷ numeratorShare (at60 4 0 (pos 70000) 0 0 110000) gives 70000
-    ∷ numeratorShare row14 gives 10001
-    ∷ numeratorShare (row 2 1000 0 (pos 5000) 0 0 0 0 0 (pos 0) []) gives 0
-    ∷ numeratorShare (row 3 3000 0 (pos 5000) 0 0 0 0 0 (pos 2000) (at (pos 2000) 1 ∷ [])) gives 2000
+    ∷ numeratorShare 0 (at60 0 0 (pos 70000) 0 0 110000) gives 70000
+    ∷ numeratorShare 0 (at60 4 0 (pos 70000) 0 0 110000) gives 70000
+    ∷ numeratorShare 0 row14 gives 10001
+    ∷ numeratorShare 0 (row 2 1000 0 (pos 5000) 0 0 0 0 0 (pos 0) []) gives 0
+    ∷ numeratorShare 0 (row 3 3000 0 (pos 5000) 0 0 0 0 0 (pos 2000) (at (pos 2000) 1 ∷ [])) gives 2000
     -- a PRD row not considered adds none
-    ∷ numeratorShare (row 3 3000 0 (pos 5000) 0 0 0 0 0 (pos 1999) (at (pos 2000) 1 ∷ [])) gives 0
+    ∷ numeratorShare 0 (row 3 3000 0 (pos 5000) 0 0 0 0 0 (pos 1999) (at (pos 2000) 1 ∷ [])) gives 0
     -- imports count only when region-wide and positive
     ∷ printedRatio (ratioOf (headerWith 1000 365 0 (pos 19999)) listingRows) gives 866673
     ∷ printedRatio (ratioOf (headerWith 1000 365 1 (pos 19999)) listingRows) gives 1000000
@@ -200,6 +268,9 @@ workedFigures =
     ∷ withPlanned 110000 .economic gives 20000
     ∷ withPlanned 110000 .shortfall gives 0
     ∷ withPlanned 90000 .shortfall gives 20000
+    -- available: owned minus both outages, and 0 if that is negative
+    ∷ available (at60 0 110000 (pos 0) 7000 5000 110000) gives 98000
+    ∷ available (at60 0 20000 (pos 0) 15000 15000 110000) gives 0
     -- economic goes up to the emergency maximum, the expected kW or the owned kW, and from the greater of scheduled and actual on
     ∷ economic (at60 0 110000 (pos 50000) 0 0 70000) 100000 gives 10000
     ∷ economic (at60 0 110000 (pos 50000) 0 0 110000) 65000 gives 5000
@@ -213,8 +284,22 @@ workedFigures =
     ∷ economic (at60 4 110000 (pos 50000) 0 0 110000) 100000 gives 40000
     -- the limit is rounded down (3285 of 2000), and goes by the largest commitment so far, today's or an earlier one
     ∷ limit (terms 1) 3 gives 1
-    ∷ charge (terms 30000) (raised (onKind 0 0) (account 1 16400)) 1 gives 25
-    ∷ charge (terms 30000) (raised (onKind 0 2) (account 1 16400)) 1 gives 30
+    ∷ charge (terms 30000) (raised 0 (account 1 16400)) 1 gives 25
+    ∷ charge (terms 30000) (raised 2 (account 1 16400)) 1 gives 30
+    ∷ oneShort 0 1 .charge gives 25
+    ∷ oneShort 0 2 .charge gives 30
+    ∷ oneShort 1 1 .charge gives 30
+    -- a commitment raises its account only if it is larger, and leaves the sums
+    ∷ raised 2 (account 1 16400) .largest gives 2
+    ∷ raised 1 (account 2 16400) .largest gives 2
+    ∷ raised 2 (account 1 16400) .charged gives 16400
+    -- a charge and a credit are added each to its own sum, and leave the largest commitment
+    ∷ added 30 7 (account 1 16400) .charged gives 16430
+    ∷ added 30 7 (account 1 16400) .credited gives 7
+    ∷ added 30 7 (account 1 16400) .largest gives 1
+    -- the largest charge: the most kW short, on the highest terms
+    ∷ fullCharge (record { netCone = 200000; days = 366 }) 4000000 gives 813333333
+    ∷ mostCharge gives 813333333
     -- with no bonus nothing is credited, and the whole pool is carried
     ∷ credits unshared gives 0
     ∷ carriedOn unshared gives 557628

@@ -1,2 +1,3 @@
 pub mod Assessment
+pub mod Values
 pub mod Figures

@@ -1,7 +1,9 @@
 // What the rules make of the rows of one interval.
 
-pub mod curve;
+pub mod account;
+pub mod balancing;
+mod curve;
+pub mod offer;
+pub mod ratio;
 pub mod row;
-pub mod rules;
-pub mod sums;
 pub mod units;

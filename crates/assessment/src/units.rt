@@ -1,14 +1,16 @@
 // Kilowatts and cents, which are never added or compared: each has sums, differences and comparisons of its own.
 
 ghost use mathlib.Core.Path.{_≡_};
-ghost use Prim.Native.Nat.{_+_, _-_, _<_, _^_, min, max};
-ghost use lib.Dec.{ltb};
+ghost use Prim.Native.Nat.{_+_, _-_, _<_, _≤_, _^_, min, max};
+ghost use lib.Dec.{ltb, eqb};
+ghost use lib.Signed.{mag};
+ghost use Rattle.assessment.specs.Assessment.{orZero};
 
 pub struct Kilowatts(pub u64);
 
 pub struct Cents(pub u64);
 
-pub fn lesser(a: u64, b: u64) -> u64
+fn lesser(a: u64, b: u64) -> u64
     ensures { λ r. ⌜ r ≡ min a b ⌝ }
 {
     if a < b {
@@ -37,6 +39,17 @@ fn above(a: u64, b: u64) -> u64
 }
 
 impl Kilowatts {
+    // A signed number of kW, or 0 if it is negative.
+    pub fn or_none(z: i64) -> Kilowatts
+        requires { ⌜ mag z < 2 ^ 62 ⌝ }
+        ensures { λ r. ⌜ r .0 ≡ orZero z ⌝ }
+    {
+        if z < 0 {
+            return Kilowatts(0);
+        }
+        Kilowatts(z as u64)
+    }
+
     pub fn lesser(self, other: Kilowatts) -> Kilowatts
         ensures { λ r. ⌜ r .0 ≡ min (self .0) (other .0) ⌝ }
     {
@@ -62,6 +75,12 @@ impl Kilowatts {
     {
         Kilowatts(self.0 + other.0)
     }
+
+    pub fn below(self, other: Kilowatts) -> bool
+        ensures { λ r. ⌜ r ≡ ltb (self .0) (other .0) ⌝ }
+    {
+        self.0 < other.0
+    }
 }
 
 impl Cents {
@@ -85,9 +104,15 @@ impl Cents {
         Cents(self.0 + other.0)
     }
 
-    pub fn below(self, other: Cents) -> bool
-        ensures { λ r. ⌜ r ≡ ltb (self .0) (other .0) ⌝ }
+    pub fn below(self, bound: Cents) -> bool
+        ensures { λ r. ⌜ r ≡ ltb (self .0) (bound .0) ⌝ }
     {
-        self.0 < other.0
+        self.0 < bound.0
+    }
+
+    pub fn same(self, other: Cents) -> bool
+        ensures { λ r. ⌜ r ≡ eqb (self .0) (other .0) ⌝ }
+    {
+        self.0 == other.0
     }
 }

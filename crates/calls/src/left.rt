@@ -1,6 +1,6 @@
 // The words that a call leaves in its buffers.
 
-use shown::print::words;
+use figures::print::words;
 ghost use Prim.Native.Nat.{_≤_};
 ghost use lib.ListN.{length};
 

@@ -2,19 +2,19 @@
 
 mod left;
 
+use figures::document::block;
+use figures::document::file;
+use figures::print::figure;
+use figures::print::words;
 use left::ledger_words;
 use left::result_words;
 use npa::npa_open;
 use npa::npa_settle;
-use shown::document::block;
-use shown::document::file;
-use shown::print::figure;
-use shown::print::words;
 ghost use mathlib.Core.Path.{_≡_};
 ghost use Prim.Native.Nat.{_≤_};
 ghost use lib.ListN.{length};
 ghost use Rattle.settling.specs.Settling.{settling};
-ghost use Rattle.settling.specs.Listing.{listingFile};
+ghost use Rattle.settling.specs.Figures.{listingFile};
 
 // Settles the listing's file at an interval, and prints the answer.
 fn settle(label: &[u8], ledger: &mut [u8], interval: u64, result: &mut [u8])

@@ -1,9 +1,10 @@
 pub mod Computing
 pub mod Figures
 pub mod Accounts
+pub mod LayoutLaws
 pub mod Sound
-pub mod HeldTests
+pub mod GroundSixLaws
 pub mod OpeningAnswers
-pub mod OpeningTests
-pub mod OpeningWrites
+pub mod OpeningLaws
 pub mod Impostors
+pub mod WalkLaws

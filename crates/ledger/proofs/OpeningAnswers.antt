@@ -15,7 +15,8 @@ abbrev pub openedAnswer : List ℕ → List ℕ → OpeningAnswer
 openedAnswer block ledger = record { ground = 0; ledger = written (ledgerWords (openedLedger block)) ledger }
 
 -- where no ground of opening applies, the call answers 0 and writes the block's ledger
-pub opening-accepts : (block ledger : List ℕ) → answered (openingGrounds block ledger) ≡ 0 → opening block ledger ≡ openedAnswer block ledger
+pub opening-accepts : (block ledger : List ℕ) → answered (openingGrounds block ledger) ≡ 0
+    → opening block ledger ≡ openedAnswer block ledger
 unfolding opening
 opening-accepts block ledger e = rw (eq-eqb (answered (openingGrounds block ledger)) 0 e)
 

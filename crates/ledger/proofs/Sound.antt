@@ -1,27 +1,59 @@
--- What is known of a block, a ledger, a file and the buffers where no ground applies.
-use Prim.Native.Nat.{ℕ, _+_, _*_, _≤_}
-use mathlib.Core.Path.{_≡_, refl, _∙_, sym}
+-- What is known of a block, a ledger and its values where no ground applies.
+use Prim.Native.Nat.{ℕ, _+_, _*_, _≤_, _<_}
+use mathlib.Core.Path.{_≡_, refl, _∙_, sym, ap}
 use mathlib.Core.List.{List, List·Memᴰ}
 use mathlib.Core.Bool.{Bool, true, false, cond}
 use native.Mathlib.Omega.{arith}
 use lib.ListN.{length, drop}
+use lib.Seq.{drop-drop}
 use lib.Dec.{eqb}
 use borrow.Author.Tests.{eqb-true}
-use Rattle.words.specs.Lists.{sum, any}
-use Rattle.words.specs.Grounds.{answered, outside}
+use Rattle.words.specs.Lists.{sum, any, rises}
+use Rattle.words.specs.Grounds.{answered, outside, liesFrom}
 use Rattle.words.proofs.Tests.{facts, not-outside}
 use Rattle.words.proofs.Lists.{none-passes}
-use Rattle.words.proofs.Words.{length-entries}
 use Rattle.words.proofs.Grounds.{none-applies}
-use Rattle.reading.specs.Block.{blockHeaderBytes, mostIds, idBytes, Terms, blockOf, notABlock, termsOutside, idsMisplaced, idsOutOfOrder}
+use Rattle.reading.specs.Block.{
+  blockHeaderBytes,
+  mostIds,
+  idBytes,
+  Terms,
+  blockWords,
+  blockOf,
+  notABlock,
+  termsOutside,
+  idsMisplaced,
+  idsOutOfOrder,
+}
 use Rattle.reading.specs.Interval.{intervalsPerDay, mostKilowatts}
-use Rattle.reading.proofs.Bounds.{block-has-header, ids-few, ids-placed}
-use Rattle.assessment.specs.Assessment.{Account, limit}
-use Rattle.ledger.specs.Ledger.{ledgerHeaderBytes, accountBytes, mostCents, mostCredited, Ledger, ledgerBytes, accountAt, accountCount, ledgerOf, idsIn, accountOutside, doesNotClose, notALedger}
+use Rattle.reading.specs.Values.{termsIn}
+use Rattle.reading.proofs.Bounds.{ids-few}
+use Rattle.reading.proofs.Facts.{block-has-header}
+use Rattle.reading.proofs.Tables.{none-entry}
+use Rattle.assessment.specs.Assessment.{mostCents, Account, limit}
+use Rattle.ledger.specs.Ledger.{
+  ledgerHeaderBytes,
+  accountBytes,
+  mostCredited,
+  standingOf,
+  Ledger,
+  ledgerBytes,
+  accountAt,
+  accountCount,
+  ledgerOf,
+  idsIn,
+  accountOutside,
+  doesNotClose,
+  notALedger,
+}
 use Rattle.ledger.specs.Opening.{OpeningAnswer, ledgerTooShort, openingGrounds, opening}
+use Rattle.ledger.specs.Values.{standingIn, LedgerRead}
+use Rattle.ledger.specs.declared.layout.Standing.{Standing as StandingValue}
+use Rattle.ledger.proofs.Accounts.{length-accounts}
 
 -- an answer of 0 is the answer of the list of grounds
-pub ground-zero : {A : Type 0} (g : ℕ) (ground : A → ℕ) (taken refused : A) → ground refused ≡ g → ground (cond (eqb g 0) taken refused) ≡ 0 → g ≡ 0
+pub ground-zero : {A : Type 0} (g : ℕ) (ground : A → ℕ) (taken refused : A) → ground refused ≡ g
+    → ground (cond (eqb g 0) taken refused) ≡ 0 → g ≡ 0
 ground-zero g ground taken refused same e = by (eqb g 0) refl e
   where
     by : (t : Bool) → eqb g 0 ≡ t → ground (cond t taken refused) ≡ 0 → g ≡ 0
@@ -32,20 +64,22 @@ ground-zero g ground taken refused same e = by (eqb g 0) refl e
 pub record BlockAccepted (block ledger : List ℕ) : Type 0 where
   pub header : blockHeaderBytes ≤ length block
   pub terms : termsOutside (blockOf block .terms) ≡ false
-  pub some : 1 ≤ blockOf block .idCount
-  pub few : blockOf block .idCount ≤ mostIds
-  pub placed : blockOf block .idsOffset + idBytes * blockOf block .idCount ≤ length block
+  pub some : 1 ≤ blockWords block .idCount
+  pub few : blockWords block .idCount ≤ mostIds
+  pub placed : blockWords block .idsOffset + idBytes * blockWords block .idCount ≤ length block
   pub ids : idsOutOfOrder (blockOf block .ids) ≡ false
-  pub room : ledgerBytes (blockOf block .idCount) ≤ length ledger
+  pub room : ledgerBytes (blockWords block .idCount) ≤ length ledger
 
 -- where a call of opening answers 0, none of its grounds applies
-pub opening-none : (block ledger : List ℕ) → opening block ledger .ground ≡ 0 → answered (openingGrounds block ledger) ≡ 0
+pub opening-none : (block ledger : List ℕ) → opening block ledger .ground ≡ 0
+    → answered (openingGrounds block ledger) ≡ 0
 unfolding opening
-opening-none block ledger e = ground-zero {A = OpeningAnswer} (answered (openingGrounds block ledger)) (λ a. a .ground) _ _ refl e
+opening-none block ledger e =
+    ground-zero {A = OpeningAnswer} (answered (openingGrounds block ledger)) (λ a. a .ground) _ _ refl e
 
 -- where no ground of opening applies, the block keeps its bounds and the buffer has room for its ledger
 pub block-accepted : (block ledger : List ℕ) → answered (openingGrounds block ledger) ≡ 0 → BlockAccepted block ledger
-unfolding openingGrounds any ledgerTooShort
+unfolding openingGrounds any ledgerTooShort idsMisplaced liesFrom
 block-accepted block ledger e =
     let none = none-applies (openingGrounds block ledger) refl e in
     let g1 : notABlock block ≡ false = search facts depth 12 in
@@ -55,7 +89,7 @@ block-accepted block ledger e =
       terms = search facts depth 12;
       some = ids-few block g3 .0;
       few = ids-few block g3 .1;
-      placed = ids-placed block g3;
+      placed = search facts depth 12;
       ids = search facts depth 12;
       room = search facts depth 12;
     }
@@ -82,13 +116,9 @@ pub record LedgerIn (l : Ledger) : Type 0 where
   pub accounts : (a : Account) → List·Memᴰ a (l .accounts) → AccountIn (l .terms) a
   pub closes : sum (λ a. a .charged) (l .accounts) ≡ sum (λ a. a .credited) (l .accounts) + l .carried
 
--- a ledger read from bytes has as many accounts as word 5 says
-pub length-accounts : (b : List ℕ) → length (ledgerOf b .accounts) ≡ accountCount b
-unfolding ledgerOf
-length-accounts b = length-entries accountBytes accountAt (accountCount b) (drop ledgerHeaderBytes b)
-
 -- where the closing test does not refuse, charged sums are credited sums plus carried
-closes-of : (l : Ledger) → doesNotClose l ≡ false → sum (λ a. a .charged) (l .accounts) ≡ sum (λ a. a .credited) (l .accounts) + l .carried
+closes-of : (l : Ledger) → doesNotClose l ≡ false
+    → sum (λ a. a .charged) (l .accounts) ≡ sum (λ a. a .credited) (l .accounts) + l .carried
 unfolding doesNotClose
 closes-of l e = search facts
 
@@ -118,3 +148,65 @@ unfolding notALedger
 ledger-room b e =
     let room : ledgerBytes (accountCount b) ≤ length b = search facts depth 20 in
     rw (length-accounts b) room
+
+-- what a value read from a ledger says: its terms, its earliest interval, its carried cents and its number of accounts
+pub record Said (b : List ℕ) (s : StandingValue) : Type 0 where
+  pub terms : termsIn (s .terms) ≡ ledgerOf b .terms
+  pub days : s .terms .days ≡ ledgerOf b .terms .days
+  pub earliest : s .earliest ≡ ledgerOf b .earliest
+  pub carried : s .carried .0 ≡ ledgerOf b .carried
+  pub count : s .accounts ≡ accountCount b
+  pub number : length (ledgerOf b .accounts) ≡ s .accounts
+
+-- a value that says what stands before the accounts says each of these
+pub said : (b : List ℕ) (s : StandingValue) → standingIn s ≡ standingOf b → Said b s
+unfolding standingIn termsIn ledgerOf accountCount
+said b s says =
+    let count = ap (λ t. t .accountCount) says in
+    record {
+      terms = ap (λ t. t .terms) says;
+      days = ap (λ t. t .terms .days) says;
+      earliest = ap (λ t. t .earliest) says;
+      carried = ap (λ t. t .carried) says;
+      count = count;
+      number = length-accounts b ∙ sym count;
+    }
+
+-- a value read from a ledger that ground 6 does not refuse keeps the bounds of all its words, and the ledger those of its ids and accounts
+pub ledger-read : (b : List ℕ) (s : StandingValue) → notALedger b ≡ false → standingIn s ≡ standingOf b → LedgerRead b s
+unfolding notALedger
+ledger-read b s e says =
+    let said = said b s says in
+    let range : outside 1 mostIds (accountCount b) ≡ false = search facts depth 20 in
+    let room : ledgerBytes (accountCount b) ≤ length b = search facts depth 20 in
+    let terms : termsOutside (ledgerOf b .terms) ≡ false = search facts depth 20 in
+    let earliest : ledgerOf b .earliest ≤ intervalsPerDay * ledgerOf b .terms .days = search facts depth 20 in
+    let carried : ledgerOf b .carried ≤ mostCents = search facts depth 20 in
+    record {
+      says = says;
+      few = rw (said .count) (not-outside 1 mostIds (accountCount b) range .1);
+      room = rw (said .count) room;
+      terms = rw (said .terms) terms;
+      earliest = omega (arith, said, earliest);
+      carried = omega (arith, said, carried);
+      ids = search facts depth 20;
+      accounts = search facts depth 20;
+    }
+
+-- what is known besides, where a value and its ledger keep their bounds
+module _ {b : List ℕ} {s : StandingValue} (h : LedgerRead b s) where
+  -- the ledger's ids rise
+  pub read-rises : rises (idsIn (ledgerOf b)) ≡ true
+  unfolding idsOutOfOrder
+  read-rises = let ids = h .ids in search facts
+
+  -- each account keeps its bounds
+  pub read-account : (j : ℕ) → j < s .accounts → AccountIn (ledgerOf b .terms) (accountAt (drop (ledgerBytes j) b))
+  unfolding ledgerOf accountCount ledgerBytes
+  read-account j low =
+      let t = ledgerOf b .terms in
+      let place = drop-drop (accountBytes * j) ledgerHeaderBytes b in
+      let none =
+      none-entry accountBytes accountAt (accountOutside t) (accountCount b) (drop ledgerHeaderBytes b) j
+      (h .accounts) (omega (arith, said b s (h .says))) in
+      account-in t (accountAt (drop (ledgerBytes j) b)) (rw place at none)

@@ -1,6 +1,6 @@
 -- The ledger: its layout, and ground 6.
 use Prim.Native.Nat.{ℕ, _+_, _*_}
-use mathlib.Core.List.{List, [], _∷_, map}
+use mathlib.Core.List.{List, [], _∷_, _++_, map}
 use mathlib.Core.Bool.{Bool, not, _||_}
 use lib.ListN.{length, drop}
 use lib.Dec.{ltb, eqb}
@@ -9,7 +9,7 @@ use Rattle.words.specs.Words.{word64, entries}
 use Rattle.words.specs.Grounds.{outside}
 use Rattle.reading.specs.Block.{Terms, mostIds, termsOutside, idsOutOfOrder}
 use Rattle.reading.specs.Interval.{intervalsPerDay, mostKilowatts}
-use Rattle.assessment.specs.Assessment.{Account, limit}
+use Rattle.assessment.specs.Assessment.{mostCents, Account, limit}
 
 -- bytes of a ledger before its accounts: 8 words of 8 bytes
 abbrev pub ledgerHeaderBytes : ℕ
@@ -27,13 +27,25 @@ ledgerFormat = 1
 abbrev pub accountsOffset : ℕ
 accountsOffset = 8
 
--- the most carried cents, and so the largest pool
-abbrev pub mostCents : ℕ
-mostCents = 1099511627775
-
 -- the largest credited sum
 abbrev pub mostCredited : ℕ
 mostCredited = 224870400000000
+
+-- what stands before the accounts: terms, the earliest interval still accepted, carried cents, and the number of accounts
+pub record Standing : Type 0 where
+  pub terms : Terms
+  pub earliest : ℕ
+  pub carried : ℕ
+  pub accountCount : ℕ
+
+-- what stands before the accounts of a buffer
+unfoldable pub standingOf : List ℕ → Standing
+standingOf b = record {
+  terms = record { netCone = word64 b 1; days = word64 b 2 };
+  earliest = word64 b 3;
+  carried = word64 b 4;
+  accountCount = word64 b 5;
+}
 
 -- a ledger: its terms, the earliest interval still accepted, the carried cents, and the accounts
 pub record Ledger : Type 0 where
@@ -42,7 +54,7 @@ pub record Ledger : Type 0 where
   pub carried : ℕ
   pub accounts : List Account
 
--- bytes of a ledger with so many accounts
+-- bytes of a ledger with so many accounts, and so where the next account begins
 unfoldable pub ledgerBytes : ℕ → ℕ
 ledgerBytes n = ledgerHeaderBytes + accountBytes * n
 
@@ -52,27 +64,34 @@ accountAt b = record { id = word64 b 0; largest = word64 b 1; charged = word64 b
 
 -- word 5: the number of accounts
 unfoldable pub accountCount : List ℕ → ℕ
-accountCount b = word64 b 5
+accountCount b = standingOf b .accountCount
 
 -- the ledger that a buffer holds
 unfoldable pub ledgerOf : List ℕ → Ledger
-ledgerOf b = record {
-  terms = record { netCone = word64 b 1; days = word64 b 2 };
-  earliest = word64 b 3;
-  carried = word64 b 4;
-  accounts = entries accountBytes accountAt (accountCount b) (drop ledgerHeaderBytes b);
-}
+ledgerOf b =
+    let s = standingOf b in
+    record {
+      terms = s .terms;
+      earliest = s .earliest;
+      carried = s .carried;
+      accounts = entries accountBytes accountAt (s .accountCount) (drop ledgerHeaderBytes b);
+    }
 
 -- the words of accounts
 unfoldable pub accountWords : List Account → List ℕ
 accountWords [] = []
 accountWords (a ∷ rest) = a .id ∷ a .largest ∷ a .charged ∷ a .credited ∷ accountWords rest
 
+-- the eight words before the accounts
+unfoldable pub standingWords : Standing → List ℕ
+standingWords s =
+    ledgerFormat ∷ s .terms .netCone ∷ s .terms .days ∷ s .earliest ∷ s .carried ∷ s .accountCount ∷ accountsOffset ∷ 0 ∷ []
+
 -- the words of a ledger: the header's eight, then each account's four
 unfoldable pub ledgerWords : Ledger → List ℕ
 ledgerWords l =
-    ledgerFormat ∷ l .terms .netCone ∷ l .terms .days ∷ l .earliest ∷ l .carried ∷ length (l .accounts) ∷ accountsOffset ∷ 0
-    ∷ accountWords (l .accounts)
+    standingWords (record { terms = l .terms; earliest = l .earliest; carried = l .carried; accountCount = length (l .accounts) })
+    ++ accountWords (l .accounts)
 
 -- the ids of a ledger
 unfoldable pub idsIn : Ledger → List ℕ

@@ -1,3 +1,4 @@
 pub mod Ledger
 pub mod Opening
+pub mod Values
 pub mod Figures

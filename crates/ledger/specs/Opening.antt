@@ -6,13 +6,13 @@ use lib.ListN.{length}
 use lib.Dec.{ltb, eqb}
 use Rattle.words.specs.Words.{written}
 use Rattle.words.specs.Grounds.{answered}
-use Rattle.reading.specs.Block.{blockOf, notABlock, termsOutside, idsMisplaced, idsOutOfOrder}
+use Rattle.reading.specs.Block.{blockWords, blockOf, notABlock, termsOutside, idsMisplaced, idsOutOfOrder}
 use Rattle.assessment.specs.Assessment.{emptyAccount}
 use Rattle.ledger.specs.Ledger.{Ledger, ledgerBytes, ledgerWords}
 
 -- ground 5: the ledger buffer is too short for the block's ids
 unfoldable pub ledgerTooShort : List ℕ → List ℕ → Bool
-ledgerTooShort block ledger = ltb (length ledger) (ledgerBytes (blockOf block .idCount))
+ledgerTooShort block ledger = ltb (length ledger) (ledgerBytes (blockWords block .idCount))
 
 -- grounds 1 to 5, in checking order
 unfoldable pub openingGrounds : List ℕ → List ℕ → List (Bool × ℕ)

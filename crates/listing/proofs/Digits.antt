@@ -17,7 +17,7 @@ pub one-digit : (n v : ℕ) → v < 10 → digits (suc n) v ≡ (48 + v) ∷ []
 unfolding digits
 one-digit n v h = rw (lt-ltb v 10 h, mod-eq-of-lt h)
 
--- the last digit of a larger number stands behind those of its tenth
+-- the last digit of a larger number stands after those of its tenth
 pub more-digits : (n v : ℕ) → 10 ≤ v → digits (suc n) v ≡ digits n (v / 10) ++ (48 + v % 10) ∷ []
 unfolding digits
 more-digits n v h = rw (le-ltb v 10 h)

@@ -1,7 +1,7 @@
 -- The worked figures of npalist, computed.
 use mathlib.Core.Path.{refl}
 use Rattle.ledger.specs.Figures.{blockWith, listingBlock}
-use Rattle.settling.specs.Listing.{fileWith, row11, row12, row13, row14, listingPoints, listingFile}
+use Rattle.settling.specs.Figures.{fileWith, row11, row12, row13, row14, listingPoints, listingFile}
 use Rattle.listing.specs.Figures.{counted, headingText, listingText, listingStream, NpalistFigures}
 use Rattle.listing.proofs.Computing.{computing}
 

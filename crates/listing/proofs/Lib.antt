@@ -3,7 +3,5 @@ pub mod Figures
 pub mod Digits
 pub mod LineLaws
 pub mod BlockLaws
-pub mod StreamLaws
-pub mod Enough
-pub mod Budget
+pub mod EndLaws
 pub mod Claims

@@ -11,7 +11,7 @@ use Rattle.listing.specs.Room.{fieldRoom}
 use Rattle.words.proofs.Placing.{then-place, place-rest}
 use Rattle.listing.proofs.Digits.{decimal-most}
 
--- a number and one byte behind it
+-- a number and one byte after it
 pub number-then : (at v byte : ℕ) (b x y : List ℕ) (m n : ℕ) → at + fieldRoom ≤ length b → x ≡ placedAt at (decimal v) b → m ≡ at + length (decimal v)
     → y ≡ placedAt m (byte ∷ []) x → n ≡ m + 1 → (y ≡ placedAt at (decimal v ++ byte ∷ []) b) × (n ≡ at + length (decimal v ++ byte ∷ []))
 number-then at v byte b x y m n room e p f q =
@@ -61,11 +61,11 @@ pub words-turn : (n i v at m end : ℕ) (b out x goal : List ℕ) → i + 1 < n 
     → placedAt at (line (wordsIn (n - i) (drop (8 * i) b))) out ≡ goal → at + length (line (wordsIn (n - i) (drop (8 * i) b))) ≡ end
     → x ≡ placedAt at (decimal v ++ text ",") out → m ≡ at + length (decimal v ++ text ",")
     → (placedAt m (line (wordsIn (n - (i + 1)) (drop (8 * (i + 1)) b))) x ≡ goal) × (m + length (line (wordsIn (n - (i + 1)) (drop (8 * (i + 1)) b))) ≡ end)
-words-turn n i v at m end b out x goal h e room left stop put behind =
+words-turn n i v at m end b out x goal h e room left stop put from =
     let front = decimal v ++ text "," in
     let rest = line (wordsIn (n - (i + 1)) (drop (8 * (i + 1)) b)) in
     let split = words-left n i v b h e in (
-      place-rest at front rest out x goal m (omega (arith, field-most v)) put behind (ap (λ l. placedAt at l out) (sym split) ∙ left),
+      place-rest at front rest out x goal m (omega (arith, field-most v)) put from (ap (λ l. placedAt at l out) (sym split) ∙ left),
       omega (arith, length-append front rest, ap length split),
     )
 
@@ -73,7 +73,7 @@ words-turn n i v at m end b out x goal h e room left stop put behind =
 pub words-end : (n i v at m end : ℕ) (b out x goal : List ℕ) → n ≡ i + 1 → v ≡ numberAt 8 b (8 * i)
     → placedAt at (line (wordsIn (n - i) (drop (8 * i) b))) out ≡ goal → at + length (line (wordsIn (n - i) (drop (8 * i) b))) ≡ end
     → x ≡ placedAt at (line (v ∷ [])) out → m ≡ at + length (line (v ∷ [])) → (x ≡ goal) × (m ≡ end)
-words-end n i v at m end b out x goal h e left stop put behind =
+words-end n i v at m end b out x goal h e left stop put from =
     let same = word-left n i v b h e in (
       put ∙ ap (λ l. placedAt at l out) same ∙ left,
       omega (arith, ap length same),

@@ -5,7 +5,7 @@ use mathlib.Core.List.{List, [], _∷_, _++_}
 use lib.ListN.{length, take, drop, replicate}
 use Rattle.words.specs.Words.{bytesOf}
 use Rattle.ledger.specs.Figures.{listingBlock}
-use Rattle.settling.specs.Listing.{listingFile}
+use Rattle.settling.specs.Figures.{listingFile}
 use Rattle.listing.specs.Lines.{text, decimal}
 use Rattle.listing.specs.Npalist.{npalist}
 
@@ -47,7 +47,8 @@ pub record NpalistFigures : Type 0 where
       ≡ headingText ++ text "refused,1,7\n" ++ listingText ++ text "refused,3,10\n"
   -- a length over the limit is refused before its block is read, and ends the listing
   pub long-opening : npalist (bytesOf 4 4097) ≡ headingText ++ text "refused,0,1\n"
-  pub long-interval : npalist (counted listingBlock ++ bytesOf 4 49153 ++ counted (listingFile 1000 0 0)) ≡ headingText ++ text "refused,1,7\n"
+  pub long-interval : npalist (counted listingBlock ++ bytesOf 4 49153 ++ counted (listingFile 1000 0 0))
+      ≡ headingText ++ text "refused,1,7\n"
   pub length-at-limit : npalist (counted listingBlock ++ bytesOf 4 49152) ≡ headingText ++ text "cut,1\n"
   -- numbers without padding, up to the largest 64-bit word
   pub zero-digits : decimal 0 ≡ text "0"

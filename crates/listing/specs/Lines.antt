@@ -15,10 +15,18 @@ text (String._∷_ c s) = code c ∷ text s
 abbrev pub mostDigits : ℕ
 mostDigits = 20
 
+-- the base of decimal numbers
+abbrev pub base : ℕ
+base = 10
+
+-- the byte of the digit 0
+abbrev pub zeroDigit : ℕ
+zeroDigit = code "0"
+
 -- a number of at most so many decimal digits
 unfoldable pub digits : ℕ → ℕ → List ℕ
 digits zero v = []
-digits (suc n) v = cond (ltb v 10) [] (digits n (v / 10)) ++ (code "0" + v % 10) ∷ []
+digits (suc n) v = cond (ltb v base) [] (digits n (v / base)) ++ (zeroDigit + v % base) ∷ []
 
 -- a 64-bit word in decimal, without padding
 unfoldable pub decimal : ℕ → List ℕ

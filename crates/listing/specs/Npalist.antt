@@ -1,10 +1,12 @@
 -- What npalist prints for a stream.
-use Prim.Native.Nat.{ℕ, zero, suc, _+_, _*_}
+use Prim.Native.Nat.{ℕ, _+_, _*_}
 use mathlib.Core.List.{List, [], _∷_, _++_}
-use mathlib.Core.Bool.{Bool, true, false, cond}
-use lib.ListN.{length, take, drop, replicate}
-use lib.Dec.{ltb, eqb}
-use Rattle.words.specs.Words.{word32, wordsIn}
+use mathlib.Core.Bool.{true, cond}
+use lib.ListN.{length, drop, replicate}
+use lib.Dec.{eqb}
+use Rattle.words.specs.Words.{wordsIn}
+use Rattle.stream.specs.Stream.{End, nextBlock}
+use Rattle.stream.specs.Steps.{Outcome, Steps, step, stepsOver}
 use Rattle.reading.specs.Block.{mostBlockBytes, mostIds}
 use Rattle.reading.specs.Interval.{mostFileBytes, mostRows, Row, headerOf, rowsOf}
 use Rattle.ledger.specs.Ledger.{ledgerBytes}
@@ -12,28 +14,18 @@ use Rattle.ledger.specs.Opening.{opening}
 use Rattle.settling.specs.Settling.{resultHeaderBytes, resultRowBytes, SettlingAnswer, settling}
 use Rattle.listing.specs.Lines.{text, line, heading, refusedLine, cutLine}
 
--- what comes next in a stream where a length is due
-pub data Next : Type 0 where
-  ended : Next
-  cut : Next
-  overLong : Next
-  block : List ℕ → List ℕ → Next
+-- the line of a row: interval, id and the row's eight words, which begin at the front of b
+unfoldable pub rowLine : ℕ → ℕ → List ℕ → List ℕ
+rowLine interval id b = line (interval ∷ id ∷ wordsIn 8 b)
 
--- each block comes after its length as one 32-bit word, at most so many bytes, which is tested before the block is read
-unfoldable pub nextBlock : ℕ → List ℕ → Next
-nextBlock most s =
-    let n = word32 s 0 in
-    let rest = drop 4 s in
-    cond (eqb (length s) 0) ended
-    (cond (ltb (length s) 4) cut
-    (cond (ltb most n) overLong
-    (cond (ltb (length rest) n) cut
-    (block (take n rest) (drop n rest)))))
-
--- one line a row: interval, id and the row's eight words, which begin at the front of b
+-- one line a row
 unfoldable pub rowLines : ℕ → List Row → List ℕ → List ℕ
 rowLines interval [] b = []
-rowLines interval (r ∷ rs) b = line (interval ∷ r .id ∷ wordsIn 8 b) ++ rowLines interval rs (drop resultRowBytes b)
+rowLines interval (r ∷ rs) b = rowLine interval (r .id) b ++ rowLines interval rs (drop resultRowBytes b)
+
+-- the lines of the rows of a file, from its result
+abbrev pub fileLines : List ℕ → List ℕ → List ℕ
+fileLines file result = rowLines (headerOf file .interval) (rowsOf file) (drop resultHeaderBytes result)
 
 -- the pool line of an interval: its number, then ratio, charges, credits and carried from the result
 unfoldable pub poolLine : ℕ → List ℕ → List ℕ
@@ -43,7 +35,7 @@ poolLine interval result = text "pool," ++ line (interval ∷ wordsIn 4 result)
 unfoldable pub intervalLines : ℕ → List ℕ → SettlingAnswer → List ℕ
 intervalLines number file a =
     cond (eqb (a .ground) 0)
-    (let interval = headerOf file .interval in rowLines interval (rowsOf file) (drop resultHeaderBytes (a .result)) ++ poolLine interval (a .result))
+    (fileLines file (a .result) ++ poolLine (headerOf file .interval) (a .result))
     (refusedLine number (a .ground))
 
 -- a ledger of as many accounts as a block may have ids
@@ -54,66 +46,46 @@ ledgerBuffer = replicate (ledgerBytes mostIds) 0
 unfoldable pub resultBuffer : List ℕ
 resultBuffer = replicate (resultHeaderBytes + resultRowBytes * mostRows) 0
 
--- what a block comes to: the bytes to print, the ledger after it, and whether the listing goes on
-pub record Listed : Type 0 where
-  pub printed : List ℕ
-  pub ledger : List ℕ
-  pub on : Bool
-
 -- the opening block: nothing is printed, or its refusal, after which the listing stops
-unfoldable pub openingListed : List ℕ → Listed
-openingListed opened =
-    let a = opening opened ledgerBuffer in
-    record { printed = cond (eqb (a .ground) 0) [] (refusedLine 0 (a .ground)); ledger = a .ledger; on = eqb (a .ground) 0 }
+unfoldable pub openingListed : List ℕ → List ℕ → Outcome (List ℕ)
+openingListed ledger block =
+    let a = opening block ledger in
+    let opened = eqb (a .ground) 0 in
+    record { printed = cond opened [] (refusedLine 0 (a .ground)); state = a .ledger; on = opened }
 
 -- an interval block: the listing goes on after a refused one too
-unfoldable pub intervalListed : ℕ → List ℕ → List ℕ → Listed
+unfoldable pub intervalListed : ℕ → List ℕ → List ℕ → Outcome (List ℕ)
 intervalListed number ledger file =
     let a = settling ledger file resultBuffer in
-    record { printed = intervalLines number file a; ledger = a .ledger; on = true }
+    record { printed = intervalLines number file a; state = a .ledger; on = true }
 
 -- a block: the opening is block 0
-unfoldable pub blockListed : ℕ → List ℕ → List ℕ → Listed
-blockListed number ledger bytes = cond (eqb number 0) (openingListed bytes) (intervalListed number ledger bytes)
-
--- an end of the listing, after these bytes
-unfoldable pub stopped : List ℕ → List ℕ → Listed
-stopped ledger bytes = record { printed = bytes; ledger = ledger; on = false }
+unfoldable pub blockListed : ℕ → List ℕ → List ℕ → Outcome (List ℕ)
+blockListed number ledger bytes = cond (eqb number 0) (openingListed ledger bytes) (intervalListed number ledger bytes)
 
 -- the most bytes of a block
 unfoldable pub mostBytes : ℕ → ℕ
 mostBytes number = cond (eqb number 0) mostBlockBytes mostFileBytes
 
--- how many bytes are due behind a length: those of its block, or none where it is cut or over the limit
-unfoldable pub bytesDue : ℕ → List ℕ → ℕ
-bytesDue number head = let n = word32 head 0 in cond (ltb (length head) 4) 0 (cond (ltb (mostBytes number) n) 0 n)
+-- the ground of a length over that limit
+unfoldable pub overLongGround : ℕ → ℕ
+overLongGround number = cond (eqb number 0) 1 7
 
--- what comes next in a stream: it may not end before the opening, and an over-long length is a 1 or a 7
-unfoldable pub listed : ℕ → List ℕ → Next → Listed
-listed number ledger ended = stopped ledger (cond (eqb number 0) (cutLine 0) [])
-listed number ledger cut = stopped ledger (cutLine number)
-listed number ledger overLong = stopped ledger (refusedLine number (cond (eqb number 0) 1 7))
-listed number ledger (block bytes rest) = blockListed number ledger bytes
+-- what is printed where the stream ends: it may not end before the opening
+unfoldable pub endLine : ℕ → End → List ℕ
+endLine number End.ended = cond (eqb number 0) (cutLine 0) []
+endLine number End.cut = cutLine number
+endLine number End.overLong = refusedLine number (overLongGround number)
 
--- what the bytes at the front of a stream come to
-abbrev pub nextListed : ℕ → List ℕ → List ℕ → Listed
-nextListed number ledger s = listed number ledger (nextBlock (mostBytes number) s)
+-- the steps of npalist, whose state is the ledger
+unfoldable pub listingSteps : Steps (List ℕ)
+listingSteps = record { most = mostBytes; block = blockListed; last = λ number ledger e. endLine number e }
 
--- the stream after what comes next
-unfoldable pub after : Next → List ℕ
-after ended = []
-after cut = []
-after overLong = []
-after (block bytes rest) = rest
+-- the step on what comes next in a stream s
+abbrev pub nextListed : ℕ → List ℕ → List ℕ → Outcome (List ℕ)
+nextListed number ledger s = step listingSteps number ledger (nextBlock (mostBytes number) s)
 
--- the blocks of a stream, from one number on, with a budget of blocks
-unfoldable pub lines : ℕ → ℕ → List ℕ → List ℕ → List ℕ
-lines zero number ledger s = []
-lines (suc budget) number ledger s =
-    let next = nextBlock (mostBytes number) s in
-    let l = listed number ledger next in
-    l .printed ++ cond (l .on) (lines budget (number + 1) (l .ledger) (after next)) []
-
--- npalist: the heading in any case, then what the blocks of standard input come to; each takes four bytes or more, so no stream uses the budget up (`never-used-up`)
+-- npalist: the heading in any case, then what is printed for the blocks of standard input;
+-- a budget above the stream's length is never used up (`budget-is-enough`)
 unfoldable pub npalist : List ℕ → List ℕ
-npalist stream = heading ++ lines (length stream + 1) 0 ledgerBuffer stream
+npalist stream = heading ++ stepsOver listingSteps (length stream + 1) 0 ledgerBuffer stream .printed

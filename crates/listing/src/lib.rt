@@ -3,4 +3,4 @@
 pub mod blocks;
 pub mod lines;
 pub mod number;
-pub mod stream;
+pub mod steps;

@@ -1,21 +1,22 @@
-// The lines of a listing, each written into a buffer at a place. A function answers the place behind what it wrote.
+// The lines of a listing, each written into a buffer at a place. A function answers the place after what it wrote.
 
 use crate::number::put_decimal;
-use words::word64;
+use words::number64;
 ghost use mathlib.Core.Path.{_≡_};
 ghost use mathlib.Core.List.{_∷_, [], _++_};
 ghost use Prim.Native.Nat.{_+_, _*_, _≤_, _<_};
 ghost use lib.ListN.{length};
 ghost use Rattle.words.specs.Words.{wordsIn, placedAt};
+ghost use Rattle.settling.specs.Settling.{resultHeaderBytes, resultRowBytes};
 ghost use Rattle.listing.specs.Lines.{text, decimal, line, heading, refusedLine, cutLine};
-ghost use Rattle.listing.specs.Npalist.{poolLine};
-ghost use Rattle.listing.specs.Room.{fieldRoom, refusedRoom, cutRoom, rowRoom, poolRoom};
+ghost use Rattle.listing.specs.Npalist.{rowLine, poolLine};
+ghost use Rattle.listing.specs.Room.{headingRoom, fieldRoom, refusedRoom, cutRoom, rowRoom, poolRoom};
 
 // The heading, for every program that prints lines.
 pub const HEADING: [u8; 74] =
     *b"interval,id,expected,actual,outage,economic,shortfall,bonus,charge,credit\n";
 
-// A number takes at most 20 digits and the byte that ends it; the line of a row has ten numbers, a pool line five behind its name.
+// A number takes at most 20 digits and the byte after it; the line of a row has ten, a pool line five after its name.
 const FIELD_ROOM: usize = 21;
 
 pub const ROW_ROOM: usize = 10 * FIELD_ROOM;
@@ -48,16 +49,16 @@ pub fn put_text(out: &mut [u8], at: usize, bytes: &[u8]) -> usize
 
 // Writes the heading.
 pub fn put_heading(out: &mut [u8], at: usize) -> usize
-    requires { ⌜ at + 74 ≤ length (now out) ⌝ }
+    requires { ⌜ at + headingRoom ≤ length (now out) ⌝ }
     ensures { λ _. ⌜ now (out .exit) ≡ placedAt at heading (now (out .entry)) ⌝ }
     ensures { λ r. ⌜ r ≡ at + length heading ⌝ }
-    ensures { λ r. ⌜ r ≡ at + 74 ⌝ }
+    ensures { λ r. ⌜ r ≡ at + headingRoom ⌝ }
 {
     put_text(out, at, &HEADING)
 }
 
-// Writes a number and the byte that ends it.
-fn put_ended(out: &mut [u8], at: usize, v: u64, byte: u8) -> usize
+// Writes a number and one byte after it.
+fn put_number(out: &mut [u8], at: usize, v: u64, byte: u8) -> usize
     requires { ⌜ at + fieldRoom ≤ length (now out) ⌝ }
     ensures { λ _. ⌜ now (out .exit) ≡ placedAt at (decimal v ++ (byte ∷ [])) (now (out .entry)) ⌝ }
     ensures { λ r. ⌜ r ≡ at + length (decimal v ++ (byte ∷ [])) ⌝ }
@@ -74,7 +75,7 @@ pub fn put_field(out: &mut [u8], at: usize, v: u64) -> usize
     ensures { λ r. ⌜ r ≡ at + length (decimal v ++ text ",") ⌝ }
     ensures { λ r. ⌜ r ≤ at + fieldRoom ⌝ }
 {
-    put_ended(out, at, v, b',')
+    put_number(out, at, v, b',')
 }
 
 // Writes the last number of a line and a newline.
@@ -84,7 +85,7 @@ pub fn put_last(out: &mut [u8], at: usize, v: u64) -> usize
     ensures { λ r. ⌜ r ≡ at + length (line (v ∷ [])) ⌝ }
     ensures { λ r. ⌜ r ≤ at + fieldRoom ⌝ }
 {
-    put_ended(out, at, v, b'\n')
+    put_number(out, at, v, b'\n')
 }
 
 // Writes the line of a refused block.
@@ -110,8 +111,8 @@ pub fn put_cut(out: &mut [u8], at: usize, block: u64) -> usize
     put_last(out, first, block)
 }
 
-// Writes the first n words of a ledger, a result or a part of one, and a newline.
-pub fn put_words(out: &mut [u8], at: usize, b: &[u8], n: usize) -> usize
+// Writes the line of the first n words of a ledger, a result or a part of one.
+pub fn put_word_line(out: &mut [u8], at: usize, b: &[u8], n: usize) -> usize
     requires { ⌜ 0 < n ⌝ }
     requires { ⌜ 8 * n ≤ length (now b) ⌝ }
     requires { ⌜ at + fieldRoom * n ≤ length (now out) ⌝ }
@@ -123,28 +124,28 @@ pub fn put_words(out: &mut [u8], at: usize, b: &[u8], n: usize) -> usize
     let mut to = at;
     let mut i = 0;
     while i < last {
-        to = put_field(out, to, word64(b, 8 * i));
+        to = put_field(out, to, number64(b, 8 * i));
         i += 1;
     }
-    put_last(out, to, word64(b, 8 * i))
+    put_last(out, to, number64(b, 8 * i))
 }
 
 // Writes the line of a row: interval, id and the row's eight words, which begin at the front of a part of a result.
 pub fn put_row_line(out: &mut [u8], at: usize, interval: u64, id: u64, row: &[u8]) -> usize
-    requires { ⌜ 64 ≤ length (now row) ⌝ }
+    requires { ⌜ resultRowBytes ≤ length (now row) ⌝ }
     requires { ⌜ at + rowRoom ≤ length (now out) ⌝ }
-    ensures { λ _. ⌜ now (out .exit) ≡ placedAt at (line (interval ∷ id ∷ wordsIn 8 (now (row .entry)))) (now (out .entry)) ⌝ }
-    ensures { λ r. ⌜ r ≡ at + length (line (interval ∷ id ∷ wordsIn 8 (now (row .entry)))) ⌝ }
+    ensures { λ _. ⌜ now (out .exit) ≡ placedAt at (rowLine interval id (now (row .entry))) (now (out .entry)) ⌝ }
+    ensures { λ r. ⌜ r ≡ at + length (rowLine interval id (now (row .entry))) ⌝ }
     ensures { λ r. ⌜ r ≤ at + rowRoom ⌝ }
 {
     let first = put_field(out, at, interval);
     let second = put_field(out, first, id);
-    put_words(out, second, row, 8)
+    put_word_line(out, second, row, 8)
 }
 
 // Writes the pool line of an interval: interval, ratio, charges, credits, carried.
 pub fn put_pool_line(out: &mut [u8], at: usize, interval: u64, result: &[u8]) -> usize
-    requires { ⌜ 32 ≤ length (now result) ⌝ }
+    requires { ⌜ resultHeaderBytes ≤ length (now result) ⌝ }
     requires { ⌜ at + poolRoom ≤ length (now out) ⌝ }
     ensures { λ _. ⌜ now (out .exit) ≡ placedAt at (poolLine interval (now (result .entry))) (now (out .entry)) ⌝ }
     ensures { λ r. ⌜ r ≡ at + length (poolLine interval (now (result .entry))) ⌝ }
@@ -152,5 +153,5 @@ pub fn put_pool_line(out: &mut [u8], at: usize, interval: u64, result: &[u8]) ->
 {
     let first = put_text(out, at, b"pool,");
     let second = put_field(out, first, interval);
-    put_words(out, second, result, 4)
+    put_word_line(out, second, result, 4)
 }

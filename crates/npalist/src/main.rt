@@ -1,100 +1,67 @@
 // npalist: reads an opening block and interval files from standard input, settles them, and prints a listing.
 
-use libc::STDIN_FILENO;
-use libc::STDOUT_FILENO;
 use listing::lines::put_heading;
-use listing::stream::LEDGER_BYTES;
-use listing::stream::LENGTH_BYTES;
-use listing::stream::LINES_BYTES;
-use listing::stream::RESULT_BYTES;
-use listing::stream::STREAM_BYTES;
-use listing::stream::bytes_due;
-use listing::stream::list_next;
+use listing::steps::BLOCK_BYTES;
+use listing::steps::LEDGER_BYTES;
+use listing::steps::LINES_BYTES;
+use listing::steps::list_next;
+use listing::steps::most_bytes;
+use standard::Read;
+use standard::print;
+use standard::read_next;
+use stream::LENGTH_BYTES;
+use stream::Taken;
 ghost use mathlib.Core.Path.{_≡_};
-ghost use Prim.Native.Nat.{_+_, _*_, _≤_};
+ghost use mathlib.Core.List.{_++_};
+ghost use Prim.Native.Nat.{_≤_};
 ghost use lib.ListN.{length, take};
-ghost use Rattle.words.specs.Words.{placedAt};
-ghost use Rattle.reading.specs.Block.{mostIds};
-ghost use Rattle.reading.specs.Interval.{mostFileBytes, mostRows};
-ghost use Rattle.ledger.specs.Ledger.{ledgerHeaderBytes, accountBytes};
-ghost use Rattle.settling.specs.Settling.{resultHeaderBytes, resultRowBytes};
-ghost use Rattle.listing.specs.Npalist.{bytesDue, nextListed};
-ghost use Rattle.listing.specs.Room.{blockRoom, nextResult};
+ghost use Rattle.stream.specs.Stream.{lengthBytes};
+ghost use Rattle.stream.specs.Code.{StepTaken};
+ghost use Rattle.standard.specs.Input.{ReadNext};
+ghost use Rattle.reading.specs.Interval.{mostFileBytes};
+ghost use Rattle.listing.specs.Npalist.{ledgerBuffer, mostBytes, nextListed};
+ghost use Rattle.listing.specs.Room.{blockRoom};
 
 // A loop that is proved has to end, and nothing says that standard input does: no stream has so many blocks.
 const MOST_BLOCKS: u64 = 1099511627776;
 
-// How many bytes came of a length, and of the block that is due behind it.
-struct Came {
-    head: usize,
-    block: usize,
-}
-
-// What came from the stream and what it comes to: the end of the bytes to print, and whether the listing goes on.
+// What was read for a step, and what the step leaves to be done.
 struct Step {
-    came: Came,
-    end: usize,
-    on: bool,
+    read: Read,
+    taken: Taken,
 }
 
-// Reads a length and the block that is due behind it, none behind a length cut short, and no byte more.
-// Which bytes stand in the stream's buffer after it is not stated: the kit says of a read how many bytes come at most.
-fn read_next(number: u64, stream: &mut [u8]) -> Came
-    requires { ⌜ length (now stream) ≡ 4 + mostFileBytes ⌝ }
-    ensures { λ r. ⌜ r .head ≤ 4 ⌝ }
-    ensures { λ r. ⌜ r .block ≤ bytesDue number (take (r .head) (now (stream .exit))) ⌝ }
-    ensures { λ r. ⌜ r .block ≤ mostFileBytes ⌝ }
-{
-    let head = io::read_full(STDIN_FILENO, &mut stream[..LENGTH_BYTES]);
-    let due = bytes_due(number, &stream[..head]);
-    let end = LENGTH_BYTES + due;
-    let block = io::read_full(STDIN_FILENO, &mut stream[LENGTH_BYTES..end]);
-    Came { head, block }
-}
-
-// Reads what comes next, and does what it asks for.
+// Reads what comes next, by the limit of the block's number, and takes the step on it.
 fn next_step(
     number: u64,
-    stream: &mut [u8],
     ledger: &mut [u8],
-    result: &mut [u8],
+    head: &mut [u8],
+    block: &mut [u8],
     out: &mut [u8],
 ) -> Step
-    requires { ⌜ length (now stream) ≡ 4 + mostFileBytes ⌝ }
-    requires { ⌜ length (now ledger) ≡ ledgerHeaderBytes + accountBytes * mostIds ⌝ }
-    requires { ⌜ length (now result) ≡ resultHeaderBytes + resultRowBytes * mostRows ⌝ }
+    requires { ⌜ length (now head) ≡ lengthBytes ⌝ }
+    requires { ⌜ length (now block) ≡ mostFileBytes ⌝ }
     requires { ⌜ blockRoom ≤ length (now out) ⌝ }
-    ensures { λ r. ⌜ now (result .exit) ≡ nextResult number (now (ledger .entry)) (now (result .entry)) (take (r .came .head + r .came .block) (now (stream .exit))) ⌝ }
-    ensures { λ r. ⌜ now (ledger .exit) ≡ nextListed number (now (ledger .entry)) (take (r .came .head + r .came .block) (now (stream .exit))) .ledger ⌝ }
-    ensures { λ r. ⌜ now (out .exit) ≡ placedAt 0 (nextListed number (now (ledger .entry)) (take (r .came .head + r .came .block) (now (stream .exit))) .printed) (now (out .entry)) ⌝ }
-    ensures { λ r. ⌜ r .end ≡ length (nextListed number (now (ledger .entry)) (take (r .came .head + r .came .block) (now (stream .exit))) .printed) ⌝ }
-    ensures { λ r. ⌜ r .on ≡ nextListed number (now (ledger .entry)) (take (r .came .head + r .came .block) (now (stream .exit))) .on ⌝ }
-    ensures { λ r. ⌜ r .end ≤ blockRoom ⌝ }
-    ensures { λ r. ⌜ r .came .head ≤ 4 ⌝ }
-    ensures { λ r. ⌜ r .came .block ≤ bytesDue number (take (r .came .head) (now (stream .exit))) ⌝ }
+    ensures { λ r. ⌜ ReadNext (mostBytes number) (now (head .exit)) (r .read) ⌝ }
+    ensures { λ r. ⌜
+        StepTaken
+        (nextListed number (now (ledger .entry))
+        (take (r .read .length) (now (head .exit)) ++ take (r .read .block) (now (block .exit))))
+        (now (ledger .exit)) (now (out .entry)) (now (out .exit)) (r .taken)
+        ⌝ }
 {
-    let came = read_next(number, stream);
-    let end = came.head + came.block;
-    let next = list_next(number, &stream[..end], ledger, result, out);
-    Step {
-        came,
-        end: next.end,
-        on: next.on,
-    }
+    let read = read_next(most_bytes(number), head, block);
+    let length = read.length;
+    let got = read.block;
+    let taken = list_next(number, ledger, &head[..length], &block[..got], out);
+    Step { read, taken }
 }
 
-// Prints what stands at the front of a buffer, and answers whether that was possible.
-fn print(out: &[u8], end: usize) -> bool
-    requires { ⌜ end ≤ length (now out) ⌝ }
-{
-    io::write_all(STDOUT_FILENO, &out[..end])
-}
-
-// Prints the heading, then block after block, until the listing stops or the output is closed.
-fn run(stream: &mut [u8], ledger: &mut [u8], result: &mut [u8], out: &mut [u8])
-    requires { ⌜ length (now stream) ≡ 4 + mostFileBytes ⌝ }
-    requires { ⌜ length (now ledger) ≡ ledgerHeaderBytes + accountBytes * mostIds ⌝ }
-    requires { ⌜ length (now result) ≡ resultHeaderBytes + resultRowBytes * mostRows ⌝ }
+// Prints the heading, then takes step after step from a ledger of zeros, until one stops or the output is closed.
+fn run(ledger: &mut [u8], head: &mut [u8], block: &mut [u8], out: &mut [u8])
+    requires { ⌜ now ledger ≡ ledgerBuffer ⌝ }
+    requires { ⌜ length (now head) ≡ lengthBytes ⌝ }
+    requires { ⌜ length (now block) ≡ mostFileBytes ⌝ }
     requires { ⌜ blockRoom ≤ length (now out) ⌝ }
 {
     let end = put_heading(out, 0);
@@ -103,11 +70,12 @@ fn run(stream: &mut [u8], ledger: &mut [u8], result: &mut [u8], out: &mut [u8])
     }
     let mut number = 0;
     while number < MOST_BLOCKS {
-        let next = next_step(number, stream, ledger, result, out);
-        if !print(out, next.end) {
+        let step = next_step(number, ledger, head, block, out);
+        let taken = step.taken;
+        if !print(out, taken.end) {
             return;
         }
-        if !next.on {
+        if !taken.on {
             return;
         }
         number += 1;
@@ -115,9 +83,9 @@ fn run(stream: &mut [u8], ledger: &mut [u8], result: &mut [u8], out: &mut [u8])
 }
 
 fn main() {
-    let mut stream = [0u8; STREAM_BYTES];
     let mut ledger = [0u8; LEDGER_BYTES];
-    let mut result = [0u8; RESULT_BYTES];
+    let mut head = [0u8; LENGTH_BYTES];
+    let mut block = [0u8; BLOCK_BYTES];
     let mut out = [0u8; LINES_BYTES];
-    run(&mut stream, &mut ledger, &mut result, &mut out);
+    run(&mut ledger, &mut head, &mut block, &mut out);
 }

@@ -12,7 +12,20 @@ use Rattle.words.specs.Words.{numberAt, word32}
 use Rattle.words.proofs.Tests.{lies-inside, lies-below, lies-above}
 use Rattle.words.proofs.Words.{entry-at}
 use Rattle.words.proofs.Access.{numberAt-drop}
-use Rattle.reading.specs.Block.{blockHeaderBytes, mostNetCone, mostIds, idBytes, Terms, blockOf, termsOutside, idsMisplaced}
+use Rattle.reading.specs.Block.{
+  blockHeaderBytes,
+  mostNetCone,
+  commonYear,
+  leapYear,
+  mostIds,
+  idBytes,
+  Terms,
+  BlockWords,
+  blockWords,
+  blockOf,
+  termsOutside,
+  idsMisplaced,
+}
 
 -- ground 2
 module _ (t : Terms) where
@@ -27,39 +40,42 @@ module _ (t : Terms) where
   cone-high h = rw (lies-above 1 mostNetCone (t .netCone) h)
 
   -- with Net CONE in range, ground 2 does not refuse 365 days
-  pub days-common : 1 ≤ t .netCone → t .netCone ≤ mostNetCone → t .days ≡ 365 → termsOutside t ≡ false
+  pub days-common : 1 ≤ t .netCone → t .netCone ≤ mostNetCone → t .days ≡ commonYear → termsOutside t ≡ false
   unfolding termsOutside
-  days-common low high d = rw (lies-inside 1 mostNetCone (t .netCone) low high, eq-eqb (t .days) 365 d)
+  days-common low high d = rw (lies-inside 1 mostNetCone (t .netCone) low high, eq-eqb (t .days) commonYear d)
 
   -- with Net CONE in range, days other than 365 must be 366
-  pub days-other : 1 ≤ t .netCone → t .netCone ≤ mostNetCone → (t .days ≡ 365 → ⊥) → termsOutside t ≡ not (eqb (t .days) 366)
+  pub days-other : 1 ≤ t .netCone → t .netCone ≤ mostNetCone → (t .days ≡ commonYear → ⊥)
+      → termsOutside t ≡ not (eqb (t .days) leapYear)
   unfolding termsOutside
-  days-other low high d = rw (lies-inside 1 mostNetCone (t .netCone) low high, ne-eqb (t .days) 365 d)
+  days-other low high d = rw (lies-inside 1 mostNetCone (t .netCone) low high, ne-eqb (t .days) commonYear d)
 
--- ground 3, of a block whose number of ids is known
-module _ (b : List ℕ) (n : ℕ) (count : n ≡ blockOf b .idCount) where
+-- ground 3, of a block whose words are known
+module _ (b : List ℕ) (w : BlockWords) (says : w ≡ blockWords b) where
   -- ground 3 refuses a block of no ids
-  pub ids-none : n < 1 → idsMisplaced b ≡ true
+  pub ids-none : w .idCount < 1 → idsMisplaced b ≡ true
   unfolding idsMisplaced
-  ids-none h = rw (← count, lies-below 1 mostIds n h)
+  ids-none h = rw (← says, lies-below 1 mostIds (w .idCount) h)
 
   -- ground 3 refuses a block of more than the most ids
-  pub ids-many : mostIds < n → idsMisplaced b ≡ true
+  pub ids-many : mostIds < w .idCount → idsMisplaced b ≡ true
   unfolding idsMisplaced
-  ids-many h = rw (← count, lies-above 1 mostIds n h)
+  ids-many h = rw (← says, lies-above 1 mostIds (w .idCount) h)
 
   -- with a number in range, ground 3 refuses just ids that do not lie between the block's five words and its end
-  pub ids-left : (at : ℕ) → at ≡ blockOf b .idsOffset → 1 ≤ n → n ≤ mostIds → idsMisplaced b ≡ not (liesFrom blockHeaderBytes (length b) at (idBytes * n))
+  pub ids-left : 1 ≤ w .idCount → w .idCount ≤ mostIds
+      → idsMisplaced b ≡ not (liesFrom blockHeaderBytes (length b) (w .idsOffset) (idBytes * w .idCount))
   unfolding idsMisplaced
-  ids-left at offset low high = rw (← count, ← offset, lies-inside 1 mostIds n low high)
+  ids-left low high = rw (← says, lies-inside 1 mostIds (w .idCount) low high)
 
--- an id is the word at its place
-pub id-is : (b : List ℕ) (i : ℕ) → i < blockOf b .idCount → getD (blockOf b .ids) i 0 ≡ numberAt 4 b (blockOf b .idsOffset + idBytes * i)
-unfolding blockOf word32
-id-is b i h =
-    let at = numberAt 4 b 16 in
-    let front : idBytes * i + 0 ≡ idBytes * i = omega arith in
-    entry-at idBytes (λ id. word32 id 0) (numberAt 4 b 12) (drop at b) i 0 h
-    ∙ numberAt-drop 4 (idBytes * i) (drop at b) 0
-    ∙ ap (numberAt 4 (drop at b)) front
-    ∙ numberAt-drop 4 at b (idBytes * i)
+  -- an id is the number at its place
+  pub id-is : (i : ℕ) → i < w .idCount → getD (blockOf b .ids) i 0 ≡ numberAt 4 b (w .idsOffset + idBytes * i)
+  unfolding blockOf word32
+  id-is i h =
+      let at = w .idsOffset in
+      let front : idBytes * i + 0 ≡ idBytes * i = omega arith in
+      rw (← says)
+      (entry-at idBytes (λ id. word32 id 0) (w .idCount) (drop at b) i 0 h
+      ∙ numberAt-drop 4 (idBytes * i) (drop at b) 0
+      ∙ ap (numberAt 4 (drop at b)) front
+      ∙ numberAt-drop 4 at b (idBytes * i))

@@ -1,5 +1,5 @@
--- What is known of terms, ids, a header and a row that no ground refuses.
-use Prim.Native.Nat.{ℕ, _+_, _*_, _<_, _≤_}
+-- What is known of terms, ids, a header, a row and a point that no ground refuses.
+use Prim.Native.Nat.{ℕ, _*_, _<_, _≤_}
 use mathlib.Core.Path.{_≡_}
 use mathlib.Core.Logic.{⊎-elim}
 use mathlib.Core.List.{List, List·Memᴰ}
@@ -11,12 +11,43 @@ use lib.Dec.{eqb}
 use borrow.Author.Tests.{eqb-true}
 use Rattle.words.specs.Lists.{any, risesAbove, rises}
 use Rattle.words.specs.Words.{word32}
-use Rattle.words.specs.Grounds.{outside, beyond, liesFrom}
+use Rattle.words.specs.Grounds.{outside, beyond}
 use Rattle.words.proofs.Tests.{facts, either, not-outside}
-use Rattle.words.proofs.Lists.{none-passes, rises-from-zero}
+use Rattle.words.proofs.Lists.{rises-from-zero}
 use Rattle.words.proofs.Words.{length-entries}
-use Rattle.reading.specs.Block.{blockHeaderBytes, mostBlockBytes, mostNetCone, leapYear, mostIds, idBytes, Terms, blockOf, notABlock, termsOutside, idsMisplaced, idsOutOfOrder}
-use Rattle.reading.specs.Interval.{headerBytes, rowBytes, pointBytes, mostFileBytes, intervalsPerDay, mostImports, mostRows, mostPoints, mostKilowatts, Header, Row, headerOf, rowOf, rowsOf, notAFile, headerOutside, tablesMisplaced, rowOutside}
+use Rattle.reading.specs.Block.{
+  mostNetCone,
+  leapYear,
+  mostIds,
+  idBytes,
+  Terms,
+  blockWords,
+  blockOf,
+  termsOutside,
+  idsMisplaced,
+  idsOutOfOrder,
+}
+use Rattle.reading.specs.Interval.{
+  lastKind,
+  intervalsPerDay,
+  mostImports,
+  mostKilowatts,
+  mostPrice,
+  Header,
+  Point,
+  RowWords,
+  Row,
+  rowWordsOf,
+  rowWith,
+  curveOf,
+  rowOf,
+  rowsOf,
+  headerOutside,
+  rowOutside,
+  pointOutside,
+}
+use Rattle.reading.proofs.Tables.{each-mapped}
+use Rattle.reading.proofs.RowsLeft.{rows-of-words}
 
 -- terms that ground 2 does not refuse
 pub record TermsIn (t : Terms) : Type 0 where
@@ -29,22 +60,24 @@ unfolding termsOutside
 terms-in t e =
     let range : outside 1 mostNetCone (t .netCone) ≡ false = search facts in
     let days : (eqb (t .days) 365 || eqb (t .days) 366) ≡ true = search facts in
+    let common : eqb (t .days) 365 ≡ true → t .days ≤ leapYear = λ h. omega (arith, eqb-true (t .days) 365 h) in
+    let leap : eqb (t .days) 366 ≡ true → t .days ≤ leapYear = λ h. omega (arith, eqb-true (t .days) 366 h) in
     record {
       netCone = not-outside 1 mostNetCone (t .netCone) range .1;
-      days = ⊎-elim (λ h. omega (arith, eqb-true (t .days) 365 h)) (λ h. omega (arith, eqb-true (t .days) 366 h)) (either (eqb (t .days) 365) (eqb (t .days) 366) days);
+      days = ⊎-elim common leap (either (eqb (t .days) 365) (eqb (t .days) 366) days);
     }
 
 -- a number of ids that ground 3 does not refuse
-pub ids-few : (b : List ℕ) → idsMisplaced b ≡ false → (1 ≤ blockOf b .idCount) × (blockOf b .idCount ≤ mostIds)
+pub ids-few : (b : List ℕ) → idsMisplaced b ≡ false → (1 ≤ blockWords b .idCount) × (blockWords b .idCount ≤ mostIds)
 unfolding idsMisplaced
 ids-few b e =
-    let range : outside 1 mostIds (blockOf b .idCount) ≡ false = search facts in
-    not-outside 1 mostIds (blockOf b .idCount) range
+    let range : outside 1 mostIds (blockWords b .idCount) ≡ false = search facts in
+    not-outside 1 mostIds (blockWords b .idCount) range
 
 -- a block read from bytes has as many ids as word 3 says
-pub length-ids : (b : List ℕ) → length (blockOf b .ids) ≡ blockOf b .idCount
+pub length-ids : (b : List ℕ) → length (blockOf b .ids) ≡ blockWords b .idCount
 unfolding blockOf
-length-ids b = length-entries idBytes (λ id. word32 id 0) (word32 b 3) (drop (word32 b 4) b)
+length-ids b = length-entries idBytes (λ id. word32 id 0) (blockWords b .idCount) (drop (blockWords b .idsOffset) b)
 
 -- ids that ground 4 does not refuse
 pub ids-rise : (is : List ℕ) → idsOutOfOrder is ≡ false → risesAbove 0 is ≡ true
@@ -57,75 +90,57 @@ ids-rise is e =
 -- a header that ground 9 does not refuse
 pub record HeaderIn (h : Header) : Type 0 where
   pub interval : h .interval < intervalsPerDay * h .terms .days
+  pub regionWide : h .regionWide ≤ 1
   pub imports : natAbs (h .imports) ≤ mostImports
 
--- a header that ground 9 does not refuse keeps the bounds of its interval and net imports
+-- a header that ground 9 does not refuse keeps the bounds of its interval, region-wide word and net imports
 pub header-in : (h : Header) → headerOutside h ≡ false → HeaderIn h
 unfolding headerOutside beyond
-header-in h e = record { interval = search facts; imports = search facts }
-
--- a file read from bytes has as many rows as word 6 of its header says
-pub length-rows : (f : List ℕ) → length (rowsOf f) ≡ headerOf f .rowCount
-unfolding rowsOf
-length-rows f = length-entries rowBytes (rowOf f) (headerOf f .rowCount) (drop (headerOf f .rowsOffset) f)
+header-in h e = record { interval = search facts; regionWide = search facts; imports = search facts }
 
 -- a row that ground 13 does not refuse
 pub record RowIn (r : Row) : Type 0 where
+  pub kind : r .kind ≤ lastKind
   pub committed : r .committed ≤ mostKilowatts
-  pub planned : r .planned ≤ mostKilowatts
-  pub maximum : r .maximum ≤ mostKilowatts
+  pub owned : r .owned ≤ mostKilowatts
   pub metered : natAbs (r .metered) ≤ mostKilowatts
   pub adjustment : natAbs (r .adjustment) ≤ mostKilowatts
+  pub planned : r .planned ≤ mostKilowatts
+  pub forced : r .forced ≤ mostKilowatts
+  pub maximum : r .maximum ≤ mostKilowatts
+  pub minimum : r .minimum ≤ r .maximum
+  pub online : r .online ≤ 1
+  pub lmp : natAbs (r .lmp) ≤ mostPrice
 
--- a row that ground 13 does not refuse keeps within the most kW in the words that RowIn names
-pub row-in : (r : Row) → rowOutside r ≡ false → RowIn r
-unfolding rowOutside any beyond
-row-in r e = record {
+-- a row whose words ground 13 does not refuse keeps their bounds, whatever its curve
+pub row-in : (w : RowWords) (curve : List Point) → rowOutside w ≡ false → RowIn (rowWith w curve)
+unfolding rowOutside rowWith any beyond
+row-in w curve e = record {
+  kind = search facts depth 20;
   committed = search facts depth 20;
-  planned = search facts depth 20;
-  maximum = search facts depth 20;
+  owned = search facts depth 20;
   metered = search facts depth 20;
   adjustment = search facts depth 20;
+  planned = search facts depth 20;
+  forced = search facts depth 20;
+  maximum = search facts depth 20;
+  minimum = search facts depth 20;
+  online = search facts depth 20;
+  lmp = search facts depth 20;
 }
 
--- rows of which ground 13 refuses none
-pub rows-in : (rs : List Row) → any rowOutside rs ≡ false → (r : Row) → List·Memᴰ r rs → RowIn r
-rows-in rs e r m = row-in r (none-passes rowOutside m e)
+-- a point that ground 14 does not refuse
+pub record PointIn (p : Point) : Type 0 where
+  pub price : natAbs (p .price) ≤ mostPrice
+  pub kw : p .kw ≤ mostKilowatts
 
--- a block that ground 1 does not refuse has its five words
-pub block-has-header : (b : List ℕ) → notABlock b ≡ false → blockHeaderBytes ≤ length b
-unfolding notABlock
-block-has-header b e =
-    let range : outside blockHeaderBytes mostBlockBytes (length b) ≡ false = search facts in
-    not-outside blockHeaderBytes mostBlockBytes (length b) range .0
+-- a point that is not out of range keeps the bounds of price and kW
+pub point-in : (p : Point) → pointOutside p ≡ false → PointIn p
+unfolding pointOutside beyond
+point-in p e = record { price = search facts; kw = search facts }
 
--- ids that ground 3 does not refuse lie within the block
-pub ids-placed : (b : List ℕ) → idsMisplaced b ≡ false → blockOf b .idsOffset + idBytes * blockOf b .idCount ≤ length b
-unfolding idsMisplaced liesFrom
-ids-placed b e = search facts depth 9
-
--- a file that ground 7 does not refuse has its ten words
-pub file-has-header : (f : List ℕ) → notAFile f ≡ false → headerBytes ≤ length f
-unfolding notAFile
-file-has-header f e =
-    let range : outside headerBytes mostFileBytes (length f) ≡ false = search facts in
-    not-outside headerBytes mostFileBytes (length f) range .0
-
--- tables that ground 11 does not refuse
-pub record TablesIn (f : List ℕ) : Type 0 where
-  pub rows : headerOf f .rowCount ≤ mostRows
-  pub points : headerOf f .pointCount ≤ mostPoints
-  pub rows-lie : headerOf f .rowsOffset + rowBytes * headerOf f .rowCount ≤ length f
-  pub points-lie : headerOf f .pointsOffset + pointBytes * headerOf f .pointCount ≤ length f
-
--- tables that ground 11 does not refuse have no more than the most rows and points, and end within the file
-pub tables-in : (f : List ℕ) → tablesMisplaced f ≡ false → TablesIn f
-unfolding tablesMisplaced liesFrom
-tables-in f e =
-    let range : outside 1 mostRows (headerOf f .rowCount) ≡ false = search facts depth 9 in
-    record {
-      rows = not-outside 1 mostRows (headerOf f .rowCount) range .1;
-      points = search facts depth 9;
-      rows-lie = search facts depth 9;
-      points-lie = search facts depth 9;
-    }
+-- where ground 13 refuses none of a file's rows, each keeps the bounds
+pub rows-in : (f : List ℕ) → any rowOutside (rowWordsOf f) ≡ false → (r : Row) → List·Memᴰ r (rowsOf f) → RowIn r
+unfolding rowOf
+rows-in f e r m =
+    each-mapped rowOutside (rowOf f) RowIn (λ w. row-in w (curveOf f w)) (rowWordsOf f) e r (rw rows-of-words at m)

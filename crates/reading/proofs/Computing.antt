@@ -1,9 +1,33 @@
--- Every definition of this crate's specs, and of those below, opened at once: a proof that computes says `unfolding computing`.
+-- Every definition of this crate's specs, and of those below, opened at once: for a proof that computes.
 use Prim.Native.Nat.{ℕ}
 use Rattle.words.proofs.Computing.{computing as words-computing}
-use Rattle.reading.specs.Block.{blockOf, notABlock, termsOutside, idsMisplaced, idsOutOfOrder}
-use Rattle.reading.specs.Interval.{headerOf, pointOf, rowAt, pointsFrom, curveAt, rowOf, rowsOf, kindOf, notAFile, headerOutside, tablesMisplaced, rowOutside, pointOutside, fallsAfter, falls, curveMisplaced, pointsOutside}
+use Rattle.reading.specs.Block.{blockWords, blockOf, notABlock, termsOutside, idsMisplaced, idsOutOfOrder}
+use Rattle.reading.specs.Interval.{
+  headerOf,
+  pointOf,
+  pointAt,
+  rowWords,
+  rowWordsAt,
+  rowWordsOf,
+  curvePart,
+  pointsIn,
+  curveOf,
+  rowWith,
+  rowOf,
+  rowsOf,
+  kindOf,
+  notAFile,
+  headerOutside,
+  tablesMisplaced,
+  rowOutside,
+  pointOutside,
+  fallsAfter,
+  falls,
+  curveMisplaced,
+  pointsOutside,
+  rowGrounds,
+}
 
 unfoldable pub computing : ℕ
-unfolding words-computing blockOf notABlock termsOutside idsMisplaced idsOutOfOrder headerOf pointOf rowAt pointsFrom curveAt rowOf rowsOf kindOf notAFile headerOutside tablesMisplaced rowOutside pointOutside fallsAfter falls curveMisplaced pointsOutside
+unfolding words-computing blockWords blockOf notABlock termsOutside idsMisplaced idsOutOfOrder headerOf pointOf pointAt rowWords rowWordsAt rowWordsOf curvePart pointsIn curveOf rowWith rowOf rowsOf kindOf notAFile headerOutside tablesMisplaced rowOutside pointOutside fallsAfter falls curveMisplaced pointsOutside rowGrounds
 computing = 0

@@ -1,14 +1,26 @@
 -- The worked figures of layouts and grounds, computed.
 use mathlib.Core.Path.{refl}
-use Rattle.reading.specs.Figures.{sampleBlock, sampleFile, LayoutFigures, tables, blockFigures, fileFigures, rowFigures, pointFigures, GroundFigures}
+use Rattle.reading.specs.Figures.{
+  sampleBlock,
+  sampleFile,
+  LayoutFigures,
+  tables,
+  wordsOfPoints,
+  pointed,
+  blockGroundFigures,
+  fileGroundFigures,
+  rowGroundFigures,
+  pointGroundFigures,
+  ReadingGroundFigures,
+}
 use Rattle.reading.proofs.Computing.{computing}
 
 -- each word of the sample block and the sample file is read from its place
 pub layout-figures : LayoutFigures
 unfolding sampleBlock sampleFile computing
-layout-figures = record { block = refl; header = refl; rows = refl }
+layout-figures = record { block-words = refl; block = refl; header = refl; row-words = refl; rows = refl }
 
 -- all figures of the grounds that a block or a file alone decides come out as stated
-pub ground-figures : GroundFigures
-unfolding tables blockFigures fileFigures rowFigures pointFigures computing
-ground-figures = record { block = refl; file = refl; row = refl; points = refl }
+pub reading-ground-figures : ReadingGroundFigures
+unfolding tables wordsOfPoints pointed blockGroundFigures fileGroundFigures rowGroundFigures pointGroundFigures computing
+reading-ground-figures = record { block = refl; file = refl; row = refl; points = refl }

@@ -19,7 +19,8 @@ unfolding idsOutOfOrder any rises risesAbove
 order-is [] = refl
 order-is (x ∷ xs) = by (ltb 0 x) refl (risesAbove x xs) refl
   where
-    by : (t : Bool) → ltb 0 x ≡ t → (u : Bool) → risesAbove x xs ≡ u → ((eqb x 0 || any (λ x. eqb x 0) xs) || not u) ≡ not (t && u)
+    by : (t : Bool) → ltb 0 x ≡ t → (u : Bool) → risesAbove x xs ≡ u
+        → ((eqb x 0 || any (λ x. eqb x 0) xs) || not u) ≡ not (t && u)
     by true p true q = rw (ne-eqb x 0 (λ z. omega (arith, ltb-true 0 x p)), not-among x 0 xs q (omega arith))
     by true p false q = or-true (eqb x 0 || any (λ x. eqb x 0) xs)
     by false p true q = let zero-id : x ≡ 0 = omega (arith, ltb-false 0 x p) in rw (eq-eqb x 0 zero-id)

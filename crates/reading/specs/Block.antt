@@ -45,27 +45,36 @@ pub record Terms : Type 0 where
   pub netCone : ℕ
   pub days : ℕ
 
--- an opening block: its five words, and the ids that they name
-pub record Block : Type 0 where
+-- the five words of an opening block; the offset is in bytes
+pub record BlockWords : Type 0 where
   pub format : ℕ
   pub terms : Terms
   pub idCount : ℕ
   pub idsOffset : ℕ
-  pub ids : List ℕ
 
--- the opening block that bytes hold
-unfoldable pub blockOf : List ℕ → Block
-blockOf b = record {
+-- the words that a block begins with
+unfoldable pub blockWords : List ℕ → BlockWords
+blockWords b = record {
   format = word32 b 0;
   terms = record { netCone = word32 b 1; days = word32 b 2 };
   idCount = word32 b 3;
   idsOffset = word32 b 4;
-  ids = entries idBytes (λ id. word32 id 0) (word32 b 3) (drop (word32 b 4) b);
 }
+
+-- an opening block: the terms of a year, and its ids
+pub record Block : Type 0 where
+  pub terms : Terms
+  pub ids : List ℕ
+
+-- the opening block that bytes hold
+unfoldable pub blockOf : List ℕ → Block
+blockOf b =
+    let w = blockWords b in
+    record { terms = w .terms; ids = entries idBytes (λ id. word32 id 0) (w .idCount) (drop (w .idsOffset) b) }
 
 -- ground 1: the block's length, or its format
 unfoldable pub notABlock : List ℕ → Bool
-notABlock b = outside blockHeaderBytes mostBlockBytes (length b) || not (eqb (blockOf b .format) blockFormat)
+notABlock b = outside blockHeaderBytes mostBlockBytes (length b) || not (eqb (blockWords b .format) blockFormat)
 
 -- ground 2: Net CONE, or the days
 unfoldable pub termsOutside : Terms → Bool
@@ -73,7 +82,9 @@ termsOutside t = outside 1 mostNetCone (t .netCone) || not (eqb (t .days) common
 
 -- ground 3: the number of the ids, or their place
 unfoldable pub idsMisplaced : List ℕ → Bool
-idsMisplaced b = outside 1 mostIds (blockOf b .idCount) || not (liesFrom blockHeaderBytes (length b) (blockOf b .idsOffset) (idBytes * blockOf b .idCount))
+idsMisplaced b =
+    let w = blockWords b in
+    outside 1 mostIds (w .idCount) || not (liesFrom blockHeaderBytes (length b) (w .idsOffset) (idBytes * w .idCount))
 
 -- ground 4: an id of 0, or ids that do not rise strictly
 unfoldable pub idsOutOfOrder : List ℕ → Bool

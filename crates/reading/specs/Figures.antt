@@ -1,17 +1,18 @@
 -- Worked figures of the layouts and of the grounds that a block or a file alone decides.
-use Prim.Native.Nat.{ℕ, _+_}
+use Prim.Native.Nat.{ℕ, suc, _-_, _^_}
 use mathlib.Core.Path.{_≡_}
 use mathlib.Core.List.{List, [], _∷_, _++_}
 use lib.ListN.{length, replicate}
 use lib.IntN.{ℤ, pos, negsuc}
 use Rattle.words.specs.Words.{bytesOfWords}
 use Rattle.words.specs.Figures.{Figure, _gives_, AllAsStated, test}
-use Rattle.reading.specs.Block.{blockOf, notABlock, termsOutside, idsMisplaced, idsOutOfOrder}
+use Rattle.reading.specs.Block.{blockWords, blockOf, notABlock, termsOutside, idsMisplaced, idsOutOfOrder}
 use Rattle.reading.specs.Interval.{
   Header,
   Point,
-  Row,
+  RowWords,
   headerOf,
+  rowWordsOf,
   rowsOf,
   notAFile,
   headerOutside,
@@ -24,7 +25,7 @@ use Rattle.reading.specs.Interval.{
 unfoldable pub sampleBlock : List ℕ
 sampleBlock = bytesOfWords 4 (1 ∷ 2 ∷ 3 ∷ 2 ∷ 24 ∷ 99 ∷ 7 ∷ 8 ∷ 99 ∷ [])
 
--- a file of one row whose words are told apart, before which three points stand
+-- a file of one row whose words all differ, before which three points stand
 unfoldable pub sampleFile : List ℕ
 sampleFile =
     bytesOfWords 4 (
@@ -36,7 +37,9 @@ sampleFile =
 
 -- each word is read from its place
 pub record LayoutFigures : Type 0 where
-  pub block : blockOf sampleBlock ≡ record { format = 1; terms = record { netCone = 2; days = 3 }; idCount = 2; idsOffset = 24; ids = 7 ∷ 8 ∷ [] }
+  pub block-words : blockWords sampleBlock
+      ≡ record { format = 1; terms = record { netCone = 2; days = 3 }; idCount = 2; idsOffset = 24 }
+  pub block : blockOf sampleBlock ≡ record { terms = record { netCone = 2; days = 3 }; ids = 7 ∷ 8 ∷ [] }
   pub header : headerOf sampleFile
       ≡ record {
         format = 1;
@@ -49,6 +52,24 @@ pub record LayoutFigures : Type 0 where
         pointCount = 3;
         pointsOffset = 40;
       }
+  pub row-words : rowWordsOf sampleFile
+      ≡ record {
+        id = 11;
+        kind = 12;
+        committed = 13;
+        owned = 14;
+        metered = negsuc 14;
+        adjustment = pos 16;
+        planned = 17;
+        forced = 18;
+        maximum = 19;
+        minimum = 20;
+        online = 21;
+        lmp = negsuc 21;
+        first = 1;
+        count = 2;
+      }
+      ∷ []
   pub rows : rowsOf sampleFile
       ≡ record {
         id = 11;
@@ -63,8 +84,6 @@ pub record LayoutFigures : Type 0 where
         minimum = 20;
         online = 21;
         lmp = negsuc 21;
-        firstPoint = 1;
-        pointCount = 2;
         curve = record { price = negsuc 9; kw = 94 } ∷ record { price = pos 95; kw = 96 } ∷ [];
       }
       ∷ []
@@ -85,11 +104,13 @@ headerWith interval days regionWide imports = record {
 
 -- a header with so many bytes behind it: rows, their offset, points, their offset
 unfoldable pub tables : ℕ → ℕ → ℕ → ℕ → ℕ → List ℕ
-tables bytes rows rowsOffset points pointsOffset = bytesOfWords 4 (1 ∷ 0 ∷ 0 ∷ 0 ∷ 0 ∷ 0 ∷ rows ∷ rowsOffset ∷ points ∷ pointsOffset ∷ []) ++ replicate bytes 0
+tables bytes rows rowsOffset points pointsOffset =
+    bytesOfWords 4 (1 ∷ 0 ∷ 0 ∷ 0 ∷ 0 ∷ 0 ∷ rows ∷ rowsOffset ∷ points ∷ pointsOffset ∷ []) ++ replicate bytes 0
 
--- a row: kind, committed, owned, metered, adjustment, planned, forced, maximum, minimum, online, LMP, and its points
-abbrev pub rowWith : ℕ → ℕ → ℕ → ℤ → ℤ → ℕ → ℕ → ℕ → ℕ → ℕ → ℤ → ℕ → List Point → Row
-rowWith kind committed owned metered adjustment planned forced maximum minimum online lmp first curve = record {
+-- the words of a row: kind, committed, owned, metered, adjustment, planned, forced, maximum, minimum, online, LMP,
+-- and its first point and their number
+abbrev pub wordsWith : ℕ → ℕ → ℕ → ℤ → ℤ → ℕ → ℕ → ℕ → ℕ → ℕ → ℤ → ℕ → ℕ → RowWords
+wordsWith kind committed owned metered adjustment planned forced maximum minimum online lmp first count = record {
   id = 1;
   kind = kind;
   committed = committed;
@@ -102,22 +123,35 @@ rowWith kind committed owned metered adjustment planned forced maximum minimum o
   minimum = minimum;
   online = online;
   lmp = lmp;
-  firstPoint = first;
-  pointCount = length curve;
-  curve = curve;
+  first = first;
+  count = count;
 }
 
--- a row with nothing in it but points
-abbrev pub rowOn : ℕ → List Point → Row
-rowOn = rowWith 0 0 0 (pos 0) (pos 0) 0 0 0 0 0 (pos 0)
+-- words of a row with nothing in it but points: the first of them, and their number
+abbrev pub named : ℕ → ℕ → RowWords
+named = wordsWith 0 0 0 (pos 0) (pos 0) 0 0 0 0 0 (pos 0)
 
 -- a point
 abbrev pub at : ℤ → ℕ → Point
 at price kw = record { price = price; kw = kw }
 
+-- the word that holds a signed number
+abbrev pub wordOf : ℤ → ℕ
+wordOf (pos n) = n
+wordOf (negsuc n) = 2 ^ 32 - suc n
+
+-- the words of points
+unfoldable pub wordsOfPoints : List Point → List ℕ
+wordsOfPoints [] = []
+wordsOfPoints (p ∷ ps) = wordOf (p .price) ∷ p .kw ∷ wordsOfPoints ps
+
+-- a file whose header is followed by these points
+unfoldable pub pointed : List Point → List ℕ
+pointed ps = bytesOfWords 4 (1 ∷ 0 ∷ 0 ∷ 0 ∷ 0 ∷ 0 ∷ 0 ∷ 0 ∷ length ps ∷ 40 ∷ wordsOfPoints ps)
+
 -- grounds 1 to 4, at a bound and beyond it
-unfoldable pub blockFigures : List Figure
-blockFigures =
+unfoldable pub blockGroundFigures : List Figure
+blockGroundFigures =
     test (notABlock (bytesOfWords 4 (1 ∷ 0 ∷ 0 ∷ 0 ∷ 0 ∷ []))) gives 0
     ∷ test (notABlock (bytesOfWords 4 (1 ∷ 0 ∷ 0 ∷ 0 ∷ []) ++ replicate 3 0)) gives 1
     ∷ test (notABlock (bytesOfWords 4 (1 ∷ []) ++ replicate 4092 0)) gives 0
@@ -142,8 +176,8 @@ blockFigures =
     ∷ []
 
 -- grounds 7, 9 and 11, at a bound and beyond it
-unfoldable pub fileFigures : List Figure
-fileFigures =
+unfoldable pub fileGroundFigures : List Figure
+fileGroundFigures =
     test (notAFile (tables 0 0 0 0 0)) gives 0
     ∷ test (notAFile (bytesOfWords 4 (1 ∷ []) ++ replicate 35 0)) gives 1
     ∷ test (notAFile (tables 49112 0 0 0 0)) gives 0
@@ -176,51 +210,51 @@ fileFigures =
     ∷ []
 
 -- ground 13, at a bound and beyond it
-unfoldable pub rowFigures : List Figure
-rowFigures =
-    test (rowOutside (rowWith 3 4000000 4000000 (pos 4000000) (negsuc 3999999) 4000000 4000000 4000000 4000000 1 (pos 1000000) 0 [])) gives 0
-    ∷ test (rowOutside (rowWith 4 0 0 (negsuc 3999999) (pos 4000000) 0 0 0 0 0 (negsuc 999999) 0 [])) gives 0
-    ∷ test (rowOutside (rowWith 5 0 0 (pos 0) (pos 0) 0 0 0 0 0 (pos 0) 0 [])) gives 1
-    ∷ test (rowOutside (rowWith 4 1 0 (pos 0) (pos 0) 0 0 0 0 0 (pos 0) 0 [])) gives 1
-    ∷ test (rowOutside (rowWith 0 4000001 0 (pos 0) (pos 0) 0 0 0 0 0 (pos 0) 0 [])) gives 1
-    ∷ test (rowOutside (rowWith 0 0 4000001 (pos 0) (pos 0) 0 0 0 0 0 (pos 0) 0 [])) gives 1
-    ∷ test (rowOutside (rowWith 0 0 0 (pos 4000001) (pos 0) 0 0 0 0 0 (pos 0) 0 [])) gives 1
-    ∷ test (rowOutside (rowWith 0 0 0 (negsuc 4000000) (pos 0) 0 0 0 0 0 (pos 0) 0 [])) gives 1
-    ∷ test (rowOutside (rowWith 0 0 0 (pos 0) (pos 4000001) 0 0 0 0 0 (pos 0) 0 [])) gives 1
-    ∷ test (rowOutside (rowWith 0 0 0 (pos 0) (negsuc 4000000) 0 0 0 0 0 (pos 0) 0 [])) gives 1
-    ∷ test (rowOutside (rowWith 0 0 0 (pos 0) (pos 0) 4000001 0 0 0 0 (pos 0) 0 [])) gives 1
-    ∷ test (rowOutside (rowWith 0 0 0 (pos 0) (pos 0) 0 4000001 0 0 0 (pos 0) 0 [])) gives 1
-    ∷ test (rowOutside (rowWith 0 0 0 (pos 0) (pos 0) 0 0 4000001 0 0 (pos 0) 0 [])) gives 1
-    ∷ test (rowOutside (rowWith 0 0 0 (pos 0) (pos 0) 0 0 4000001 4000001 0 (pos 0) 0 [])) gives 1
-    ∷ test (rowOutside (rowWith 0 0 0 (pos 0) (pos 0) 0 0 5 5 0 (pos 0) 0 [])) gives 0
-    ∷ test (rowOutside (rowWith 0 0 0 (pos 0) (pos 0) 0 0 5 6 0 (pos 0) 0 [])) gives 1
-    ∷ test (rowOutside (rowWith 0 0 0 (pos 0) (pos 0) 0 0 0 0 2 (pos 0) 0 [])) gives 1
-    ∷ test (rowOutside (rowWith 0 0 0 (pos 0) (pos 0) 0 0 0 0 0 (pos 1000001) 0 [])) gives 1
-    ∷ test (rowOutside (rowWith 0 0 0 (pos 0) (pos 0) 0 0 0 0 0 (negsuc 1000000) 0 [])) gives 1
+unfoldable pub rowGroundFigures : List Figure
+rowGroundFigures =
+    test (rowOutside (wordsWith 3 4000000 4000000 (pos 4000000) (negsuc 3999999) 4000000 4000000 4000000 4000000 1 (pos 1000000) 0 0)) gives 0
+    ∷ test (rowOutside (wordsWith 4 0 0 (negsuc 3999999) (pos 4000000) 0 0 0 0 0 (negsuc 999999) 0 0)) gives 0
+    ∷ test (rowOutside (wordsWith 5 0 0 (pos 0) (pos 0) 0 0 0 0 0 (pos 0) 0 0)) gives 1
+    ∷ test (rowOutside (wordsWith 4 1 0 (pos 0) (pos 0) 0 0 0 0 0 (pos 0) 0 0)) gives 1
+    ∷ test (rowOutside (wordsWith 0 4000001 0 (pos 0) (pos 0) 0 0 0 0 0 (pos 0) 0 0)) gives 1
+    ∷ test (rowOutside (wordsWith 0 0 4000001 (pos 0) (pos 0) 0 0 0 0 0 (pos 0) 0 0)) gives 1
+    ∷ test (rowOutside (wordsWith 0 0 0 (pos 4000001) (pos 0) 0 0 0 0 0 (pos 0) 0 0)) gives 1
+    ∷ test (rowOutside (wordsWith 0 0 0 (negsuc 4000000) (pos 0) 0 0 0 0 0 (pos 0) 0 0)) gives 1
+    ∷ test (rowOutside (wordsWith 0 0 0 (pos 0) (pos 4000001) 0 0 0 0 0 (pos 0) 0 0)) gives 1
+    ∷ test (rowOutside (wordsWith 0 0 0 (pos 0) (negsuc 4000000) 0 0 0 0 0 (pos 0) 0 0)) gives 1
+    ∷ test (rowOutside (wordsWith 0 0 0 (pos 0) (pos 0) 4000001 0 0 0 0 (pos 0) 0 0)) gives 1
+    ∷ test (rowOutside (wordsWith 0 0 0 (pos 0) (pos 0) 0 4000001 0 0 0 (pos 0) 0 0)) gives 1
+    ∷ test (rowOutside (wordsWith 0 0 0 (pos 0) (pos 0) 0 0 4000001 0 0 (pos 0) 0 0)) gives 1
+    ∷ test (rowOutside (wordsWith 0 0 0 (pos 0) (pos 0) 0 0 4000001 4000001 0 (pos 0) 0 0)) gives 1
+    ∷ test (rowOutside (wordsWith 0 0 0 (pos 0) (pos 0) 0 0 5 5 0 (pos 0) 0 0)) gives 0
+    ∷ test (rowOutside (wordsWith 0 0 0 (pos 0) (pos 0) 0 0 5 6 0 (pos 0) 0 0)) gives 1
+    ∷ test (rowOutside (wordsWith 0 0 0 (pos 0) (pos 0) 0 0 0 0 2 (pos 0) 0 0)) gives 1
+    ∷ test (rowOutside (wordsWith 0 0 0 (pos 0) (pos 0) 0 0 0 0 0 (pos 1000001) 0 0)) gives 1
+    ∷ test (rowOutside (wordsWith 0 0 0 (pos 0) (pos 0) 0 0 0 0 0 (negsuc 1000000) 0 0)) gives 1
     ∷ []
 
 -- ground 14, at a bound and beyond it
-unfoldable pub pointFigures : List Figure
-pointFigures =
-    test (pointsOutside 10 (rowOn 0 (replicate 10 (at (pos 1) 1)))) gives 0
-    ∷ test (pointsOutside 11 (rowOn 0 (replicate 11 (at (pos 1) 1)))) gives 1
-    ∷ test (pointsOutside 3 (rowOn 1 (at (pos 1) 1 ∷ at (pos 1) 1 ∷ []))) gives 0
-    ∷ test (pointsOutside 3 (rowOn 2 (at (pos 1) 1 ∷ at (pos 1) 1 ∷ []))) gives 1
-    ∷ test (pointsOutside 3 (rowOn 4294967295 (at (pos 1) 1 ∷ []))) gives 1
-    ∷ test (pointsOutside 0 (rowOn 4294967295 [])) gives 0
-    ∷ test (pointsOutside 1 (rowOn 0 (at (pos 1000000) 4000000 ∷ []))) gives 0
-    ∷ test (pointsOutside 1 (rowOn 0 (at (pos 1000001) 0 ∷ []))) gives 1
-    ∷ test (pointsOutside 1 (rowOn 0 (at (negsuc 999999) 0 ∷ []))) gives 0
-    ∷ test (pointsOutside 1 (rowOn 0 (at (negsuc 1000000) 0 ∷ []))) gives 1
-    ∷ test (pointsOutside 1 (rowOn 0 (at (pos 0) 4000001 ∷ []))) gives 1
-    ∷ test (pointsOutside 2 (rowOn 0 (at (negsuc 1) 2 ∷ at (negsuc 2) 2 ∷ []))) gives 1
-    ∷ test (pointsOutside 2 (rowOn 0 (at (negsuc 1) 2 ∷ at (negsuc 0) 1 ∷ []))) gives 1
-    ∷ test (pointsOutside 3 (rowOn 0 (at (negsuc 1) 2 ∷ at (negsuc 0) 3 ∷ at (pos 0) 2 ∷ []))) gives 1
+unfoldable pub pointGroundFigures : List Figure
+pointGroundFigures =
+    test (pointsOutside (pointed (replicate 10 (at (pos 1) 1))) (named 0 10)) gives 0
+    ∷ test (pointsOutside (pointed (replicate 11 (at (pos 1) 1))) (named 0 11)) gives 1
+    ∷ test (pointsOutside (pointed (replicate 3 (at (pos 1) 1))) (named 1 2)) gives 0
+    ∷ test (pointsOutside (pointed (replicate 3 (at (pos 1) 1))) (named 2 2)) gives 1
+    ∷ test (pointsOutside (pointed (replicate 3 (at (pos 1) 1))) (named 4294967295 1)) gives 1
+    ∷ test (pointsOutside (pointed []) (named 4294967295 0)) gives 0
+    ∷ test (pointsOutside (pointed (at (pos 1000000) 4000000 ∷ [])) (named 0 1)) gives 0
+    ∷ test (pointsOutside (pointed (at (pos 1000001) 0 ∷ [])) (named 0 1)) gives 1
+    ∷ test (pointsOutside (pointed (at (negsuc 999999) 0 ∷ [])) (named 0 1)) gives 0
+    ∷ test (pointsOutside (pointed (at (negsuc 1000000) 0 ∷ [])) (named 0 1)) gives 1
+    ∷ test (pointsOutside (pointed (at (pos 0) 4000001 ∷ [])) (named 0 1)) gives 1
+    ∷ test (pointsOutside (pointed (at (negsuc 1) 2 ∷ at (negsuc 2) 2 ∷ [])) (named 0 2)) gives 1
+    ∷ test (pointsOutside (pointed (at (negsuc 1) 2 ∷ at (negsuc 0) 1 ∷ [])) (named 0 2)) gives 1
+    ∷ test (pointsOutside (pointed (at (negsuc 1) 2 ∷ at (negsuc 0) 3 ∷ at (pos 0) 2 ∷ [])) (named 0 3)) gives 1
     ∷ []
 
 -- all figures of grounds that a block or a file alone decides
-pub record GroundFigures : Type 0 where
-  pub block : AllAsStated blockFigures
-  pub file : AllAsStated fileFigures
-  pub row : AllAsStated rowFigures
-  pub points : AllAsStated pointFigures
+pub record ReadingGroundFigures : Type 0 where
+  pub block : AllAsStated blockGroundFigures
+  pub file : AllAsStated fileGroundFigures
+  pub row : AllAsStated rowGroundFigures
+  pub points : AllAsStated pointGroundFigures

@@ -8,7 +8,7 @@ use lib.Dec.{ltb, leb, eqb}
 use lib.Signed.{ltZ}
 use Rattle.words.specs.Lists.{any}
 use Rattle.words.specs.Words.{word32, signed, entries}
-use Rattle.words.specs.Grounds.{answered, outside, beyond, liesFrom, overlap}
+use Rattle.words.specs.Grounds.{outside, beyond, liesFrom, overlap}
 use Rattle.reading.specs.Block.{Terms}
 
 -- bytes of the header of 10 words
@@ -98,7 +98,67 @@ pub record Point : Type 0 where
 unfoldable pub pointOf : List ℕ → Point
 pointOf b = record { price = signed (word32 b 0); kw = word32 b 1 }
 
--- a row: its 14 words in document 01's order, words 2 to 9 in kW and the LMP in cents per MWh, and the curve that the last two name
+-- point j of those that b begins with
+unfoldable pub pointAt : List ℕ → ℕ → Point
+pointAt b j = pointOf (drop (pointBytes * j) b)
+
+-- the 14 words of a row in document 01's order, words 2 to 9 in kW and the LMP in cents per MWh; the last two name its points
+pub record RowWords : Type 0 where
+  pub id : ℕ
+  pub kind : ℕ
+  pub committed : ℕ
+  pub owned : ℕ
+  pub metered : ℤ
+  pub adjustment : ℤ
+  pub planned : ℕ
+  pub forced : ℕ
+  pub maximum : ℕ
+  pub minimum : ℕ
+  pub online : ℕ
+  pub lmp : ℤ
+  pub first : ℕ
+  pub count : ℕ
+
+-- the words of the row at the front of b
+unfoldable pub rowWords : List ℕ → RowWords
+rowWords b = record {
+  id = word32 b 0;
+  kind = word32 b 1;
+  committed = word32 b 2;
+  owned = word32 b 3;
+  metered = signed (word32 b 4);
+  adjustment = signed (word32 b 5);
+  planned = word32 b 6;
+  forced = word32 b 7;
+  maximum = word32 b 8;
+  minimum = word32 b 9;
+  online = word32 b 10;
+  lmp = signed (word32 b 11);
+  first = word32 b 12;
+  count = word32 b 13;
+}
+
+-- the words of row i of a file
+unfoldable pub rowWordsAt : List ℕ → ℕ → RowWords
+rowWordsAt f i = rowWords (drop (headerOf f .rowsOffset + rowBytes * i) f)
+
+-- the words of a file's rows, in its order
+unfoldable pub rowWordsOf : List ℕ → List RowWords
+rowWordsOf f = entries rowBytes rowWords (headerOf f .rowCount) (drop (headerOf f .rowsOffset) f)
+
+-- a row's points: the stretch of the file that starts at its first point; word 12 is free if word 13 is 0
+unfoldable pub curvePart : List ℕ → RowWords → List ℕ
+curvePart f w = drop (headerOf f .pointsOffset + pointBytes * cond (eqb (w .count) 0) 0 (w .first)) f
+
+-- the points that so many entries of a stretch hold
+unfoldable pub pointsIn : ℕ → List ℕ → List Point
+pointsIn n b = entries pointBytes pointOf n b
+
+-- a row's curve
+unfoldable pub curveOf : List ℕ → RowWords → List Point
+curveOf f w = pointsIn (w .count) (curvePart f w)
+
+-- a row, as the rules speak of it: words 0 to 11, and its curve
 pub record Row : Type 0 where
   pub id : ℕ
   pub kind : ℕ
@@ -112,45 +172,33 @@ pub record Row : Type 0 where
   pub minimum : ℕ
   pub online : ℕ
   pub lmp : ℤ
-  pub firstPoint : ℕ
-  pub pointCount : ℕ
   pub curve : List Point
 
--- the row at the front of b, whose points begin at the front of another part of the file
-unfoldable pub rowAt : List ℕ → List ℕ → Row
-rowAt b points = record {
-  id = word32 b 0;
-  kind = word32 b 1;
-  committed = word32 b 2;
-  owned = word32 b 3;
-  metered = signed (word32 b 4);
-  adjustment = signed (word32 b 5);
-  planned = word32 b 6;
-  forced = word32 b 7;
-  maximum = word32 b 8;
-  minimum = word32 b 9;
-  online = word32 b 10;
-  lmp = signed (word32 b 11);
-  firstPoint = word32 b 12;
-  pointCount = word32 b 13;
-  curve = entries pointBytes pointOf (word32 b 13) points;
+-- the row of these words and a curve
+unfoldable pub rowWith : RowWords → List Point → Row
+rowWith w curve = record {
+  id = w .id;
+  kind = w .kind;
+  committed = w .committed;
+  owned = w .owned;
+  metered = w .metered;
+  adjustment = w .adjustment;
+  planned = w .planned;
+  forced = w .forced;
+  maximum = w .maximum;
+  minimum = w .minimum;
+  online = w .online;
+  lmp = w .lmp;
+  curve = curve;
 }
 
--- a row's points: the stretch of the file that starts at its first point
-unfoldable pub pointsFrom : List ℕ → ℕ → List ℕ
-pointsFrom f first = drop (headerOf f .pointsOffset + pointBytes * first) f
-
--- the byte of the file f at which the points begin of the row at the front of b; for a row without points, whose word 12 is free, the file's end
-unfoldable pub curveAt : List ℕ → List ℕ → ℕ
-curveAt f b = cond (eqb (word32 b 13) 0) (length f) (headerOf f .pointsOffset + pointBytes * word32 b 12)
-
--- the row of the file f that begins at the front of b
-unfoldable pub rowOf : List ℕ → List ℕ → Row
-rowOf f b = rowAt b (pointsFrom f (word32 b 12))
+-- the row of a file that has these words
+unfoldable pub rowOf : List ℕ → RowWords → Row
+rowOf f w = rowWith w (curveOf f w)
 
 -- the rows of a file, in its order
 unfoldable pub rowsOf : List ℕ → List Row
-rowsOf f = entries rowBytes (rowOf f) (headerOf f .rowCount) (drop (headerOf f .rowsOffset) f)
+rowsOf f = entries rowBytes (λ b. rowOf f (rowWords b)) (headerOf f .rowCount) (drop (headerOf f .rowsOffset) f)
 
 -- what a kind word says; a word above 4 is of no kind, and ground 13 refuses it
 pub data Kind : Type 0 where
@@ -190,13 +238,13 @@ tablesMisplaced f =
     || overlap (h .rowsOffset) rows (h .pointsOffset) points
 
 -- ground 13, of one row: its kind, words 2, 3, 6, 7, 8 and 9, words 4 and 5, minimum and maximum, online, LMP, and kind 4 with a commitment
-unfoldable pub rowOutside : Row → Bool
-rowOutside r =
-    ltb lastKind (r .kind)
-    || any (λ kw. ltb mostKilowatts kw) (r .committed ∷ r .owned ∷ r .planned ∷ r .forced ∷ r .maximum ∷ r .minimum ∷ [])
-    || beyond mostKilowatts (r .metered) || beyond mostKilowatts (r .adjustment)
-    || ltb (r .maximum) (r .minimum) || ltb 1 (r .online) || beyond mostPrice (r .lmp)
-    || (eqb (r .kind) 4 && ltb 0 (r .committed))
+unfoldable pub rowOutside : RowWords → Bool
+rowOutside w =
+    ltb lastKind (w .kind)
+    || any (ltb mostKilowatts) (w .committed ∷ w .owned ∷ w .planned ∷ w .forced ∷ w .maximum ∷ w .minimum ∷ [])
+    || beyond mostKilowatts (w .metered) || beyond mostKilowatts (w .adjustment)
+    || ltb (w .maximum) (w .minimum) || ltb 1 (w .online) || beyond mostPrice (w .lmp)
+    || (eqb (w .kind) 4 && ltb 0 (w .committed))
 
 -- a point's price or kW is out of range
 unfoldable pub pointOutside : Point → Bool
@@ -213,21 +261,17 @@ falls [] = false
 falls (p ∷ ps) = fallsAfter p ps
 
 -- a row has too many points, or points beyond a table of so many; word 12 is free if word 13 is 0
-unfoldable pub curveMisplaced : ℕ → Row → Bool
-curveMisplaced points r = ltb mostRowPoints (r .pointCount) || (ltb 0 (r .pointCount) && ltb points (r .firstPoint + r .pointCount))
+unfoldable pub curveMisplaced : ℕ → RowWords → Bool
+curveMisplaced points w = ltb mostRowPoints (w .count) || (ltb 0 (w .count) && ltb points (w .first + w .count))
 
--- ground 14, of one row in a file of so many points: the number or the place of its points, or the points themselves
-unfoldable pub pointsOutside : ℕ → Row → Bool
-pointsOutside points r = curveMisplaced points r || any pointOutside (r .curve) || falls (r .curve)
+-- ground 14, of one row of a file: the number or the place of its points, or the points themselves
+unfoldable pub pointsOutside : List ℕ → RowWords → Bool
+pointsOutside f w = curveMisplaced (headerOf f .pointCount) w || any pointOutside (curveOf f w) || falls (curveOf f w)
 
--- point j of those that b begins with
-abbrev pub pointAt : List ℕ → ℕ → Point
-pointAt b j = pointOf (drop (pointBytes * j) b)
+-- grounds 13 and 14, in checking order: all rows are tested for 13 before any for 14
+unfoldable pub rowGrounds : List ℕ → List (Bool × ℕ)
+rowGrounds f = (any rowOutside (rowWordsOf f), 13) ∷ (any (pointsOutside f) (rowWordsOf f), 14) ∷ []
 
 -- point j is out of range, or falls from the one before it
 abbrev pub pointRefused : List ℕ → ℕ → Bool
 pointRefused b j = pointOutside (pointAt b j) || (ltb 0 j && falls (pointAt b (j - 1) ∷ pointAt b j ∷ []))
-
--- what is answered of grounds 13 and 14: all rows are tested for 13 before any for 14
-abbrev pub scanned : List ℕ → ℕ
-scanned f = answered ((any rowOutside (rowsOf f), 13) ∷ (any (pointsOutside (headerOf f .pointCount)) (rowsOf f), 14) ∷ [])

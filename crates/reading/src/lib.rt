@@ -1,5 +1,7 @@
-// What an opening block and an interval file say.
+// What an opening block and an interval file say. No other crate knows where a word of them stands.
 
 pub mod block;
-mod common;
-pub mod interval;
+pub mod header;
+pub mod rows;
+pub mod scan;
+mod spans;

@@ -1,312 +1,250 @@
--- Rows charged beside the accounts: what holds from turn to turn, what a turn knows of its row and account, and the eight words that it puts.
+-- What is left to add up and to write while rows are charged, and what a turn does to it.
 use Prim.Native.Nat.{ℕ, _+_, _*_, _≤_, _<_, _^_}
-use mathlib.Core.Path.{_≡_, refl, sym, ap, ap₂, subst, _∙_}
-use mathlib.Core.Logic.{_≢_}
-use mathlib.Core.List.{List, [], _∷_, _++_, map, append-assoc, append-nil}
-use mathlib.Core.Bool.{Bool, true, false, true≢false}
+use mathlib.Core.Path.{_≡_, refl, sym, ap, _∙_}
+use mathlib.Core.List.{List, [], _∷_}
+use mathlib.Core.Bool.{Bool, true, false, cond}
 use native.Mathlib.Omega.{arith}
-use lib.ListN.{length, take, drop, length-append}
-use lib.Seq.{sets, sets-eq, length-sets, take-at, take-all, length-take-le}
+use borrow.Author.Tests.{ltb-false}
+use lib.ListN.{length, drop}
 use lib.Dec.{ltb}
-use borrow.Author.Tests.{ltb-true, ltb-false, ne-eqb}
-use borrow.Rule.Slice.PartAt.{part-to-end}
-use Rattle.words.specs.Lists.{any}
-use Rattle.words.specs.Words.{word32}
-use Rattle.words.proofs.Lists.{none-start, none-turn}
-use Rattle.reading.specs.Block.{Terms}
-use Rattle.reading.specs.Interval.{rowBytes, Row, headerOf, rowAt, rowOf, rowsOf, rowOutside}
-use Rattle.reading.proofs.Bounds.{terms-in, RowIn, row-in}
-use Rattle.reading.proofs.Walk.{fails, rowPart, row-part, rowsLeft, rows-start, rows-turn, rows-end}
-use Rattle.assessment.specs.Assessment.{Ratio, ratioOf, shortfall, expected, RowFigures, rowFigures, Account, raised, charge, ChargedRow, chargedRow, assessed}
-use Rattle.assessment.proofs.SumLaws.{partFrom, part-length, curve-within}
-use Rattle.assessment.proofs.Promises.{figures-in}
-use Rattle.assessment.proofs.ChargeLaws.{charge-reads, charge-considered}
-use Rattle.ledger.specs.Ledger.{ledgerBytes, accountAt, accountCount, ledgerOf, accountOutside}
-use Rattle.settling.specs.Settling.{rowWords, assessedFile}
-use Rattle.settling.specs.Scratch.{Passed, chargedWords}
-use Rattle.settling.proofs.Beside.{unmatched, met, passed-by, missed, none-left, by-order}
-use Rattle.settling.proofs.Meeting.{accountIds, rowIds, chargedTo, chargedBeside, charged-met, charged-passed, charged-own, accounts-rise, all-meet}
-use Rattle.ledger.proofs.Accounts.{accountPart, accountsLeft, accounts-start, accounts-turn, accounts-end}
-use Rattle.ledger.proofs.Sound.{account-in}
-use Rattle.settling.proofs.SettlingTests.{row-id}
+use Rattle.words.specs.Lists.{sum}
+use Rattle.words.specs.Words.{writtenAt}
+use Rattle.words.proofs.Lists.{sum-start, sum-turn, sum-end}
+use Rattle.words.proofs.Access.{write-more, write-none, length-writtenAt}
+use Rattle.reading.specs.Interval.{mostKilowatts, headerOf, rowWordsAt, rowWith, rowOf, rowsOf}
+use Rattle.reading.specs.Values.{termsIn, rowIn}
+use Rattle.reading.specs.declared.header.Header.{Header as HeaderValue}
+use Rattle.reading.specs.declared.rows.Row.{Row as RowValue}
+use Rattle.reading.proofs.Facts.{row-count}
+use Rattle.assessment.specs.Assessment.{
+  ratioOf,
+  rowFigures,
+  accountOf,
+  raised,
+  charge,
+  ChargedRow,
+  chargedRow,
+  Assessed,
+  charges,
+  totalBonus,
+}
+use Rattle.assessment.specs.Values.{ratioIn, figuresIn, accountIn}
+use Rattle.assessment.specs.declared.ratio.Ratio.{Ratio as RatioValue}
+use Rattle.assessment.specs.declared.row.Figures.{Figures as FiguresValue}
+use Rattle.assessment.specs.declared.account.Account.{Account as AccountValue}
+use Rattle.ledger.specs.Ledger.{ledgerBytes, accountAt, ledgerOf}
+use Rattle.ledger.specs.declared.layout.Standing.{Standing as StandingValue}
+use Rattle.settling.specs.Settling.{resultBytes, rowsWords, assessedFile}
+use Rattle.settling.specs.Values.{Passed, chargedResult}
+use Rattle.settling.proofs.Turns.{Found, rowAt, in-file, row-within, account-within}
+use Rattle.settling.proofs.SettledLaws.{
+  chargedOf,
+  chargedAt,
+  chargedLeft,
+  charged-start,
+  charged-turn,
+  charged-end,
+  rows-count,
+  terms-are,
+  region-is,
+  charged-bounded,
+  charges-fit,
+  bonus-fits,
+}
 
--- six numbers are a row's figures
-abbrev pub Figured : RowFigures → ℕ → ℕ → ℕ → ℕ → ℕ → ℕ → Type 0
-Figured f e a o k s b = (e ≡ f .expected) × (a ≡ f .actual) × (o ≡ f .outage) × (k ≡ f .economic) × (s ≡ f .shortfall) × (b ≡ f .bonus)
+-- the eight words of a row whose credit is not known
+abbrev pub wordsFor : FiguresValue → ℕ → List ℕ
+wordsFor f cents =
+    f .expected .0 ∷ f .actual .0 ∷ f .outage .0 ∷ f .economic .0 ∷ f .shortfall .0 ∷ f .bonus .0 ∷ cents ∷ 0 ∷ []
 
--- the eight words of a row that is charged to an account
-charged-words : (t : Terms) (q : Ratio) (account : Account) (r : Row) (rest : List ChargedRow) (e a o k s b cents : ℕ)
-    → Figured (rowFigures q r) e a o k s b
-    → cents ≡ charge t (raised r account) (rowFigures q r .shortfall)
-    → chargedWords (chargedTo t q account r ∷ rest) ≡ (e ∷ a ∷ o ∷ k ∷ s ∷ b ∷ cents ∷ 0 ∷ []) ++ chargedWords rest
-unfolding rowWords chargedTo
-charged-words t q account r rest e a o k s b cents figures charged =
-    let (is-e, is-a, is-o, is-k, is-s, is-b) = figures in
-    let is-cents = charged ∙ sym (charge-considered t q (raised r account) r) in
-    λ x. sym is-e x ∷ sym is-a x ∷ sym is-o x ∷ sym is-k x ∷ sym is-s x ∷ sym is-b x ∷ sym is-cents x ∷ 0 ∷ chargedWords rest
+-- the words of charged rows, their credits not known
+abbrev rowWords : List ChargedRow → List ℕ
+rowWords = rowsWords (λ c. 0)
 
--- words put at a place, taken with all before it
-take-sets : (ws l : List ℕ) (at : ℕ) → at + length ws ≤ length l → take (at + length ws) (sets l at ws) ≡ take at l ++ ws
-take-sets ws l at h =
-    ap (take (at + length ws)) (sets-eq ws l at h)
-    ∙ take-at (take at l ++ ws) (drop (at + length ws) l) (at + length ws) (length-append (take at l) ws ∙ ap (λ n. n + length ws) (length-take-le at l (omega arith)))
+-- the figures and the charge of a charged row make its words
+words-of : (f : FiguresValue) (cents : ℕ) (c : ChargedRow) → figuresIn f ≡ c .figures → cents ≡ c .charge
+    → wordsFor f cents ≡ rowWords (c ∷ [])
+unfolding figuresIn rowsWords
+words-of f cents c same charge =
+    λ k.
+    same k .expected
+    ∷ same k .actual
+    ∷ same k .outage
+    ∷ same k .economic
+    ∷ same k .shortfall
+    ∷ same k .bonus
+    ∷ charge k
+    ∷ 0
+    ∷ []
 
--- and with what is left after it
-put-turn : (ws l rest more all : List ℕ) (at next : ℕ) → next ≡ at + length ws → next ≤ length l → more ≡ ws ++ rest → take at l ++ more ≡ all
-    → take next (sets l at ws) ++ rest ≡ all
-put-turn ws l rest more all at next e h same left =
-    ap (λ n. take n (sets l at ws) ++ rest) e
-    ∙ ap (λ front. front ++ rest) (take-sets ws l at (omega (arith, e, h)))
-    ∙ append-assoc (take at l) ws rest
-    ∙ ap (λ rest. take at l ++ rest) (sym same)
-    ∙ left
+-- a result with the words of rows from row i on, left to write; one without room for so many rows stays as it is
+unfoldable pub leftToWrite : ℕ → ℕ → List ChargedRow → List ℕ → List ℕ
+leftToWrite rows i cs result =
+    cond (ltb (length result) (resultBytes rows)) result (writtenAt (resultBytes i) (rowWords cs) result)
 
--- the terms of a ledger
-abbrev termsOf : List ℕ → Terms
-termsOf ledger = ledgerOf ledger .terms
+-- where no row is left, nothing is left to write
+left-end : (rows i : ℕ) (result : List ℕ) → leftToWrite rows i [] result ≡ result
+unfolding leftToWrite rowsWords
+left-end rows i result = by (ltb (length result) (resultBytes rows))
+  where
+    by : (t : Bool) → cond t result (writtenAt (resultBytes i) [] result) ≡ result
+    by true = refl
+    by false = write-none (resultBytes i) result
 
--- the walk, with row i and account j next: each row left meets one of the accounts left, and the words of what it is charged follow those of the rows before
-pub record Walking (ledger file : List ℕ) (q : Ratio) (cone days count first : ℕ) (rows : List ℕ) (i j : ℕ) : Type 0 where
-  pub passed : Passed ledger file
-  pub cone-is : cone ≡ termsOf ledger .netCone
-  pub days-is : days ≡ termsOf ledger .days
-  pub count-is : count ≡ headerOf file .rowCount
-  pub first-is : first ≡ headerOf file .rowsOffset
-  pub within : i ≤ count
-  pub long : length rows ≡ 8 * headerOf file .rowCount
-  pub words : take (8 * i) rows ++ chargedWords (chargedBeside (termsOf ledger) q (accountsLeft ledger j) (rowsLeft file i))
-      ≡ chargedWords (chargedBeside (termsOf ledger) q (ledgerOf ledger .accounts) (rowsOf file))
-  pub meet : unmatched (accountIds (accountsLeft ledger j)) (rowIds (rowsLeft file i)) ≡ false
-  pub rows-in : any rowOutside (rowsLeft file i) ≡ false
-  pub points-in : any (fails file) (rowsLeft file i) ≡ false
-  pub accounts-in : any (accountOutside (termsOf ledger)) (accountsLeft ledger j) ≡ false
+-- once the words of row i are written, those from row i + 1 on are left
+left-turn : (rows i : ℕ) (c : ChargedRow) (cs : List ChargedRow) (ws result after : List ℕ) → i < rows
+    → ws ≡ rowWords (c ∷ [])
+    → after ≡ cond (ltb (length result) (resultBytes rows)) result (writtenAt (resultBytes i) ws result)
+    → (length after ≡ length result) × (leftToWrite rows (i + 1) cs after ≡ leftToWrite rows i (c ∷ cs) result)
+unfolding leftToWrite rowsWords resultBytes
+left-turn rows i c cs ws result after on words put = by (ltb (length result) (resultBytes rows)) refl put
+  where
+    by : (t : Bool) → ltb (length result) (resultBytes rows) ≡ t
+        → after ≡ cond t result (writtenAt (resultBytes i) ws result)
+        → (length after ≡ length result)
+        × (leftToWrite rows (i + 1) cs after ≡ cond t result (writtenAt (resultBytes i) (rowWords (c ∷ cs)) result))
+    by true e same = (ap length same, rw (ap (λ r. ltb (length r) (resultBytes rows)) same ∙ e) same)
+    by false e put =
+        let at = resultBytes i in
+        let own = rowWords (c ∷ []) in
+        let room : at + 8 * 8 ≤ length result = omega (arith, ltb-false (length result) (resultBytes rows) e) in
+        let next : resultBytes (i + 1) ≡ at + 8 * 8 = omega arith in
+        let here : after ≡ writtenAt at own result = put ∙ ap (λ ws. writtenAt at ws result) words in
+        let long : length after ≡ length result = ap length here ∙ length-writtenAt at own result room in
+        (long, rw (long, e, next, here) (write-more at own (rowWords cs) result room))
 
-module _ {ledger file : List ℕ} {q : Ratio} {cone days count first : ℕ} where
-  -- it begins with the first row and the first account
-  pub walk-starts : {rows : List ℕ} → Passed ledger file → cone ≡ termsOf ledger .netCone → days ≡ termsOf ledger .days → count ≡ headerOf file .rowCount → first ≡ headerOf file .rowsOffset
-      → length rows ≡ 8 * headerOf file .rowCount → Walking ledger file q cone days count first rows 0 0
-  walk-starts {rows} p cone-is days-is count-is first-is long =
-      let accounts = accounts-start ledger in
-      let left = rows-start file in
+-- rows are charged, with row i next: what is left to add and to write makes the sums and the result of all rows
+pub record Charging (ledger file result₀ result : List ℕ) (cents kw i : ℕ) : Type 0 where
+  pub charges : cents + sum (λ c. c .charge) (chargedLeft ledger file i) ≡ charges (assessedFile ledger file)
+  pub bonus : kw + sum (λ c. c .figures .bonus) (chargedLeft ledger file i) ≡ totalBonus (assessedFile ledger file)
+  pub long : length result ≡ length result₀
+  pub left : leftToWrite (length (assessedFile ledger file .rows)) i (chargedLeft ledger file i) result
+      ≡ chargedResult (assessedFile ledger file) result₀
+
+-- before the first row, all of them are left
+pub charging-starts : (ledger file result : List ℕ) → Charging ledger file result result 0 0 0
+unfolding charges totalBonus chargedResult leftToWrite resultBytes
+charging-starts ledger file result =
+    let start = charged-start ledger file in
+    record {
+      charges = sum-start (λ c. c .charge) start;
+      bonus = sum-start (λ c. c .figures .bonus) start;
+      long = refl;
+      left = ap (λ cs. leftToWrite (length (assessedFile ledger file .rows)) 0 cs result) (sym start);
+    }
+
+-- a file and a ledger that grounds 6 to 14 do not refuse
+module _ {ledger file : List ℕ} {s : StandingValue} {h : HeaderValue} (p : Passed ledger s file h) where
+  -- the interval that the file makes of the ledger
+  abbrev v : Assessed
+  v = assessedFile ledger file
+
+  -- no row is left: sums and result are those of all rows
+  pub charging-ends : {result₀ result : List ℕ} {cents kw i : ℕ} → Charging ledger file result₀ result cents kw i
+      → h .rows ≤ i → (cents ≡ charges v) × ((kw ≡ totalBonus v) × (result ≡ chargedResult v result₀))
+  charging-ends {result₀} {result} {cents} {kw} {i} c end =
+      let rows = length (v .rows) in
+      let none = charged-end ledger file i (omega (arith, row-count (p .tabled .read))) in (
+        sum-end (λ c. c .charge) cents (charges v) none (c .charges),
+        (
+          sum-end (λ c. c .figures .bonus) kw (totalBonus v) none (c .bonus),
+          sym (left-end rows i result) ∙ ap (λ cs. leftToWrite rows i cs result) (sym none) ∙ c .left,
+        ),
+      )
+
+  -- what is known of row i in its turn: its figures f, and its account a, raised
+  pub record Turn (i : ℕ) (f : FiguresValue) (a : AccountValue) : Type 0 where
+    pub taken : i < headerOf file .rowCount
+    pub figures : figuresIn f ≡ chargedAt ledger file i .figures
+    pub shortfall : f .shortfall .0 ≤ mostKilowatts
+    pub account : accountIn a
+        ≡ raised (rowAt file i .committed) (accountOf (rowAt file i .id) (ledgerOf ledger .accounts))
+    pub largest : a .largest .0 ≤ mostKilowatts
+
+  -- so it is where the row is read, a walk finds its account, and that is raised
+  pub turn-known : {i j k : ℕ} → i < h .rows → Found ledger file i j k
+      → (row : RowValue) → rowIn row ≡ rowWordsAt file i
+      → (q : RatioValue) → ratioIn q ≡ ratioOf (headerOf file) (rowsOf file)
+      → (f : FiguresValue) → figuresIn f ≡ rowFigures (h .«region_wide») (ratioIn q) (rowOf file (rowIn row))
+      → (a b : AccountValue) → accountIn a ≡ accountAt (drop (ledgerBytes k) ledger)
+      → accountIn b ≡ raised (row .committed) (accountIn a) → Turn i f b
+  unfolding chargedOf chargedRow figuresIn accountIn rowIn rowOf rowWith raised
+  turn-known {i} {j} {k} taken found row read q ratio f figured a b account raise =
+      let same : figuresIn f ≡ chargedAt ledger file i .figures
+      = figured ∙ (λ x. rowFigures (region-is p x) (ratio x) (rowOf file (read x))) in
+      let own = account ∙ found .own in
+      let mine = raise ∙ (λ x. raised (read x .committed) (own x)) in
+      let kw = account-within p taken found .largest in
+      let row-in = row-within p taken in
+      let bounds = charged-bounded p (rowAt file i) row-in .figures in
       record {
-        passed = p;
-        cone-is = cone-is;
-        days-is = days-is;
-        count-is = count-is;
-        first-is = first-is;
-        within = omega arith;
-        long = long;
-        words = ap₂ (λ xs rs. chargedWords (chargedBeside (termsOf ledger) q xs rs)) (sym accounts) (sym left);
-        meet = sym (ap₂ (λ xs rs. unmatched (accountIds xs) (rowIds rs)) accounts left) ∙ all-meet ledger file p;
-        rows-in = none-start rowOutside left (p .rows);
-        points-in = none-start (fails file) left (p .points);
-        accounts-in = none-start (accountOutside (termsOf ledger)) accounts (p .accounts);
+        taken = in-file p taken;
+        figures = same;
+        shortfall = omega (arith, ap (λ g. g .shortfall) same, bounds .shortfall);
+        account = mine;
+        largest =
+            omega (arith, ap (λ a. a .largest) mine, ap (λ a. a .largest) (found .own), kw, row-in .committed);
       }
 
-  -- no row is left: the words are those of the interval that the file makes of the ledger
-  pub walk-ends : {rows : List ℕ} {i j : ℕ} → Walking ledger file q cone days count first rows i j → count ≤ i → q ≡ ratioOf (headerOf file) (rowsOf file)
-      → rows ≡ chargedWords (assessedFile ledger file .rows)
-  unfolding chargedBeside rowWords assessedFile assessed
-  walk-ends {rows} {i} {j} w end ratio =
-      let all = ledgerOf ledger .accounts in
-      let whole : length rows ≤ 8 * i = omega (arith, w .long, w .count-is, end) in
-      let last : headerOf file .rowCount ≤ i = omega (arith, w .count-is, end) in
-      let none = ap (λ rs. chargedWords (chargedBeside (termsOf ledger) q (accountsLeft ledger j) rs)) (rows-end file i last) in
-      let own = charged-own (termsOf ledger) q all 0 all (rowsOf file) (accounts-rise ledger file (w .passed)) (all-meet ledger file (w .passed)) (λ k h. refl) in
-      sym (take-all (8 * i) rows whole)
-      ∙ sym (append-nil (take (8 * i) rows))
-      ∙ ap (λ ws. take (8 * i) rows ++ ws) (sym none)
-      ∙ w .words
-      ∙ ap chargedWords own
-      ∙ ap (λ q. chargedWords (map (chargedRow (termsOf ledger) all q) (rowsOf file))) ratio
+  -- a row in its turn, charged
+  module _ {i : ℕ} {f : FiguresValue} {a : AccountValue} (t : Turn i f a) {cents : ℕ}
+      (charged : cents ≡ charge (termsIn (s .terms)) (accountIn a) (f .shortfall .0)) where
+    -- the row, charged
+    abbrev this : ChargedRow
+    this = chargedAt ledger file i
 
-  -- a turn
-  module _ {rows : List ℕ} {i j : ℕ} (w : Walking ledger file q cone days count first rows i j) (taken : i < count) where
-    -- row i of the file
-    abbrev row : Row
-    row = rowOf file (rowPart file i)
+    -- the rows behind it
+    abbrev rest : List ChargedRow
+    rest = chargedLeft ledger file (i + 1)
 
-    -- account j of the ledger
-    abbrev account : Account
-    account = accountAt (accountPart ledger j)
+    -- its charge is that of the interval
+    charge-is : cents ≡ this .charge
+    unfolding figuresIn chargedOf chargedRow
+    charge-is = charged ∙ (λ x. charge (terms-are p x) (t .account x) (t .figures x .shortfall))
 
-    -- the rows after row i
-    abbrev rowsOn : List Row
-    rowsOn = rowsLeft file (i + 1)
+    -- and so is its bonus
+    bonus-is : f .bonus .0 ≡ this .figures .bonus
+    unfolding figuresIn
+    bonus-is = ap (λ g. g .bonus) (t .figures)
 
-    -- the accounts after account j
-    abbrev accountsOn : List Account
-    accountsOn = accountsLeft ledger (j + 1)
+    module _ {result₀ result : List ℕ} {so kw : ℕ} (c : Charging ledger file result₀ result so kw i) where
+      -- the charge is left to add to the sum so far
+      charges-next : so + cents + sum (λ c. c .charge) rest ≡ charges v
+      charges-next =
+          sum-turn (λ c. c .charge) so (charges v) cents (charged-turn ledger file i (t .taken)) (c .charges) charge-is
 
-    -- where the row begins
-    abbrev start : ℕ
-    start = first + rowBytes * i
+      -- and so is the bonus
+      bonus-next : kw + f .bonus .0 + sum (λ c. c .figures .bonus) rest ≡ totalBonus v
+      bonus-next =
+          let turn = charged-turn ledger file i (t .taken) in
+          sum-turn (λ c. c .figures .bonus) kw (totalBonus v) (f .bonus .0) turn (c .bonus) bonus-is
 
-    -- the bytes of the file from the row's first on
-    abbrev part : List ℕ
-    part = partFrom file start
+      -- so the sum of charges fits with it
+      pub charges-more : so + cents < 2 ^ 64
+      charges-more = omega (arith, charges-next, charges-fit p)
 
-    -- row i is one of the file's
-    on : i < headerOf file .rowCount
-    on = omega (arith, w .count-is, taken)
+      -- and that of bonuses
+      pub bonus-more : kw + f .bonus .0 < 2 ^ 64
+      bonus-more = omega (arith, bonus-next, bonus-fits p)
 
-    -- the row begins where the header's offset of the rows puts it
-    place : start ≡ headerOf file .rowsOffset + rowBytes * i
-    place = ap (λ at. at + rowBytes * i) (w .first-is)
-
-    -- it is one of the first 512
-    pub row-few : i < 512
-    row-few = omega (arith, on, w .passed .rows-few)
-
-    -- it begins no later than the file ends
-    pub row-begins : start ≤ length file
-    row-begins = omega (arith, on, w .first-is, w .passed .rows-lie)
-
-    -- all 56 of its bytes are there
-    pub row-holds : 56 ≤ length part
-    row-holds = omega (arith, part-length file start, on, w .first-is, w .passed .rows-lie)
-
-    -- an account is left, since a row is
-    pub account-left : j < accountCount ledger
-    account-left = by (ltb j (accountCount ledger)) refl
-      where
-        by : (t : Bool) → ltb j (accountCount ledger) ≡ t → j < accountCount ledger
-        by true e = ltb-true j (accountCount ledger) e
-        by false e =
-            let none = accounts-end ledger j (ltb-false j (accountCount ledger) e) in
-            let lost = sym (ap₂ (λ xs rs. unmatched (accountIds xs) (rowIds rs)) none (rows-turn file i on)) ∙ w .meet in
-            absurd (true≢false (sym (none-left (row .id) (rowIds rowsOn)) ∙ lost))
-
-    -- it is one of the first 512
-    pub account-few : j < 512
-    account-few = omega (arith, account-left, w .passed .few)
-
-    -- all 32 bytes of account j lie within the ledger
-    pub account-lies : 64 + 32 * j + 32 ≤ length ledger
-    unfolding ledgerBytes
-    account-lies = omega (arith, account-left, w .passed .room)
-
-    -- there is room for the row's words
-    pub words-lie : 8 * i + 8 ≤ length rows
-    words-lie = omega (arith, on, w .long)
-
-    -- the row is within the bounds of ground 13
-    row-here : RowIn row
-    row-here = row-in row (none-turn rowOutside (rows-turn file i on) (w .rows-in) .0)
-
-    -- the account is within the bounds of ground 6, and so are those after it
-    accounts-here : (accountOutside (termsOf ledger) account ≡ false) × (any (accountOutside (termsOf ledger)) accountsOn ≡ false)
-    accounts-here = none-turn (accountOutside (termsOf ledger)) (accounts-turn ledger j account-left) (w .accounts-in)
-
-    -- the part is the row's own
-    part-here : part ≡ rowPart file i
-    part-here = row-part file i (w .first-is)
-
-    -- its word 0 is the row's id
-    id-here : word32 part 0 ≡ row .id
-    id-here = row-id file i (word32 part 0) first (w .first-is) refl
-
-    -- read without points, the row has the same committed kW
-    committed-here : rowAt part [] .committed ≡ row .committed
-    unfolding rowOf rowAt
-    committed-here = ap (λ b. word32 b 2) part-here
-
-    -- those committed kW are at most 4000000
-    committed-in : rowAt part [] .committed ≤ 4000000
-    committed-in = omega (arith, committed-here, row-here .committed)
-
-    -- the row and the account at the front of what is left
-    meet-here : unmatched (account .id ∷ accountIds accountsOn) (row .id ∷ rowIds rowsOn) ≡ false
-    meet-here = sym (ap₂ (λ xs rs. unmatched (accountIds xs) (rowIds rs)) (accounts-turn ledger j account-left) (rows-turn file i on)) ∙ w .meet
-
-    -- the row is not the account's own, and so above it: the account is passed by
-    passes : row .id ≢ account .id → Walking ledger file q cone days count first rows i (j + 1)
-    passes other =
-        let same = ap₂ (chargedBeside (termsOf ledger) q) (accounts-turn ledger j account-left) (rows-turn file i on)
-        ∙ charged-passed (termsOf ledger) q account accountsOn row rowsOn (ne-eqb (row .id) (account .id) other)
-        ∙ ap (chargedBeside (termsOf ledger) q accountsOn) (sym (rows-turn file i on)) in
-        by-order (row .id) (account .id)
-        (λ h. absurd (true≢false (sym (missed (account .id) (accountIds accountsOn) (row .id) (rowIds rowsOn) h) ∙ meet-here)))
-        (λ h. absurd (other h))
-        (λ h.
-        record {
-          passed = w .passed;
-          cone-is = w .cone-is;
-          days-is = w .days-is;
-          count-is = w .count-is;
-          first-is = w .first-is;
-          within = w .within;
-          long = w .long;
-          words = ap (λ cs. take (8 * i) rows ++ chargedWords cs) (sym same) ∙ w .words;
-          meet = ap (λ rs. unmatched (accountIds accountsOn) (rowIds rs)) (rows-turn file i on) ∙ sym (passed-by (account .id) (accountIds accountsOn) (row .id) (rowIds rowsOn) h) ∙ meet-here;
-          rows-in = w .rows-in;
-          points-in = w .points-in;
-          accounts-in = accounts-here .1;
-        })
-
-    -- the same by the words that are read
-    pub walk-passes : {id word : ℕ} → id ≡ account .id → word ≡ word32 part 0 → word ≢ id → {rows′ : List ℕ} {i′ : ℕ} → rows′ ≡ rows → i′ ≡ i
-        → Walking ledger file q cone days count first rows′ i′ (j + 1)
-    walk-passes id-is word-is differ rows-are i-is =
-        rw (rows-are, i-is) (passes (λ e. differ (word-is ∙ id-here ∙ e ∙ sym id-is)))
-
-    -- what the code of a curve's place asks: bytes of the file's header and of the row, and points within the file
-    pub curve-asks : (40 ≤ length file) × ((56 ≤ length part) × (0 < word32 part 13 → headerOf file .pointsOffset + 8 * (word32 part 12 + word32 part 13) ≤ length file))
-    curve-asks = (w .passed .header, (row-holds, curve-within file i start place (none-turn (fails file) (rows-turn file i on) (w .points-in) .0) (w .passed .points-lie)))
-
-    module _ (curve : ℕ) (same : rowAt part (drop curve file) ≡ rowOf file part) where
-      -- the row in two parts of the file is that of the file
-      row-same : rowAt part (partFrom file curve) ≡ row
-      row-same = ap (rowAt part) (part-to-end file curve) ∙ same ∙ ap (rowOf file) part-here
-
-      -- what the code of a row's figures asks: bytes of the row and its points, committed kW and numerator bounded
-      pub figures-asks : {above : ℕ} → curve + 8 * word32 part 13 ≤ length file → above ≤ 2 ^ 40
-          → (56 ≤ length part) × ((8 * word32 part 13 ≤ length (partFrom file curve)) × ((rowAt part [] .committed ≤ 4000000) × (above ≤ 2 ^ 40)))
-      figures-asks lies few = (row-holds, (omega (arith, part-length file curve, lies), (committed-in, few)))
-
-      -- the figures of the row in two parts of the file, and its account as it is read
-      module _ {e a o k s b : ℕ} (figures : Figured (rowFigures q (rowAt part (partFrom file curve))) e a o k s b)
-          {id largest charged credited : ℕ} (read : (id ≡ account .id) × (largest ≡ account .largest) × (charged ≡ account .charged) × (credited ≡ account .credited)) where
-        -- what the code of a charge asks: terms, commitments and shortfall within bounds, and the row's bytes
-        pub charge-asks : (cone ≤ 200000) × ((days ≤ 366) × ((56 ≤ length part) × ((largest ≤ 4000000) × ((rowAt part [] .committed ≤ 4000000) × (s ≤ 4000000)))))
-        charge-asks =
-            let in-terms = terms-in (termsOf ledger) (w .passed .terms) in
-            let short : s ≤ 4000000 = omega (arith, figures .4, ap (λ r. rowFigures q r .shortfall) row-same, figures-in q row row-here .shortfall) in
-            (omega (arith, w .cone-is, in-terms .netCone), (omega (arith, w .days-is, in-terms .days), (row-holds, (omega (arith, read .1, account-in (termsOf ledger) account (accounts-here .0) .largest), (committed-in, short)))))
-
-        -- the row is the account's own: its words are put
-        meets : {rows′ : List ℕ} {cents : ℕ} → row .id ≡ account .id
-            → cents ≡ charge (record { netCone = cone; days = days }) (raised (rowAt part []) (record { id = id; largest = largest; charged = charged; credited = credited })) s
-            → rows′ ≡ sets rows (8 * i) (e ∷ a ∷ o ∷ k ∷ s ∷ b ∷ cents ∷ 0 ∷ []) → Walking ledger file q cone days count first rows′ (i + 1) (j + 1)
-        meets {rows′} {cents} own cents-is put =
-            let ws = e ∷ a ∷ o ∷ k ∷ s ∷ b ∷ cents ∷ 0 ∷ [] in
-            let rest = chargedBeside (termsOf ledger) q accountsOn rowsOn in
-            let here : Figured (rowFigures q row) e a o k s b = subst (λ r. Figured (rowFigures q r) e a o k s b) row-same figures in
-            let charged-here : cents ≡ charge (termsOf ledger) (raised row account) (rowFigures q row .shortfall)
-            = cents-is ∙ charge-reads (termsOf ledger) _ row _ account _ _ s (w .cone-is) (w .days-is) committed-here (read .1) (read .2) (here .4) in
-            let same = ap chargedWords
-            (ap₂ (chargedBeside (termsOf ledger) q) (accounts-turn ledger j account-left) (rows-turn file i on) ∙ charged-met (termsOf ledger) q account accountsOn row rowsOn own)
-            ∙ charged-words (termsOf ledger) q account row rest e a o k s b cents here charged-here in
-            let next : 8 * (i + 1) ≡ 8 * i + 8 = omega arith in
-            let room : 8 * (i + 1) ≤ length rows = omega (arith, w .long, on) in
-            record {
-              passed = w .passed;
-              cone-is = w .cone-is;
-              days-is = w .days-is;
-              count-is = w .count-is;
-              first-is = w .first-is;
-              within = omega (arith, taken);
-              long = ap length put ∙ length-sets rows (8 * i) ws ∙ w .long;
-              words = ap (λ l. take (8 * (i + 1)) l ++ chargedWords rest) put ∙ put-turn ws rows (chargedWords rest) _ _ (8 * i) (8 * (i + 1)) next room same (w .words);
-              meet = sym (met (account .id) (accountIds accountsOn) (row .id) (rowIds rowsOn) own) ∙ meet-here;
-              rows-in = none-turn rowOutside (rows-turn file i on) (w .rows-in) .1;
-              points-in = none-turn (fails file) (rows-turn file i on) (w .points-in) .1;
-              accounts-in = accounts-here .1;
-            }
-
-        -- the same by the words that are read
-        pub walk-meets : {word cents : ℕ} → word ≡ word32 part 0 → word ≡ id
-            → cents ≡ charge (record { netCone = cone; days = days }) (raised (rowAt part []) (record { id = id; largest = largest; charged = charged; credited = credited })) s
-            → {rows′ : List ℕ} {i′ : ℕ} → rows′ ≡ sets rows (8 * i) (e ∷ a ∷ o ∷ k ∷ s ∷ b ∷ cents ∷ 0 ∷ []) → i′ ≡ i + 1
-            → Walking ledger file q cone days count first rows′ i′ (j + 1)
-        walk-meets word-is same-id cents-is put i-is = rw i-is (meets (sym id-here ∙ sym word-is ∙ same-id ∙ read .0) cents-is put)
+      -- once they are added and the row's words are written, the rows from i + 1 on are left
+      pub charging-turn : {after : List ℕ} {more longer : ℕ}
+          → after ≡ cond (ltb (length result) (resultBytes (h .rows))) result
+          (writtenAt (resultBytes i) (wordsFor f cents) result)
+          → more ≡ so + cents → longer ≡ kw + f .bonus .0 → Charging ledger file result₀ after more longer (i + 1)
+      charging-turn {after} put cents-more kw-more =
+          let n = length (v .rows) in
+          let ws = wordsFor f cents in
+          let on : i < n = omega (arith, t .taken, rows-count p, row-count (p .tabled .read)) in
+          let by-rows : ℕ → List ℕ
+          = λ n. cond (ltb (length result) (resultBytes n)) result (writtenAt (resultBytes i) ws result) in
+          let written = put ∙ ap by-rows (sym (rows-count p)) in
+          let words = words-of f cents this (t .figures) charge-is in
+          let step = left-turn n i this rest ws result after on words written in
+          let turn = charged-turn ledger file i (t .taken) in
+          record {
+            charges = rw cents-more charges-next;
+            bonus = rw kw-more bonus-next;
+            long = step .0 ∙ c .long;
+            left = step .1 ∙ ap (λ cs. leftToWrite n i cs result) (sym turn) ∙ c .left;
+          }

@@ -1,271 +1,528 @@
--- What is left to post while rows and accounts are walked side by side.
-use Prim.Native.Nat.{ℕ, zero, suc, _+_, _*_, _≤_, _<_, _^_}
+-- What is left to credit and to post while rows are walked beside the accounts, and what a turn does to it.
+use Prim.Native.Nat.{ℕ, zero, suc, _+_, _-_, _*_, _≤_, _<_, _^_}
 use mathlib.Core.Path.{_≡_, refl, sym, ap, ap₂, _∙_}
 use mathlib.Core.List.{List, [], _∷_, _++_, map, map-map}
-use mathlib.Core.Bool.{Bool, true, false, _&&_}
 use native.Mathlib.Omega.{arith}
-use borrow.Author.Tests.{lt-ltb, le-ltb, ltb-true, ltb-false}
-use lib.ListN.{length, drop, getD}
-use lib.Seq.{drop-drop}
-use lib.Dec.{ltb, eqb}
-use Rattle.words.specs.Lists.{any}
-use Rattle.words.specs.Words.{word32, entries, writtenAt}
-use Rattle.words.proofs.Tests.{first-holds, second-holds, not-first, not-second}
-use Rattle.words.proofs.Words.{length-entries, entry-at}
+use borrow.Author.Tests.{eq-eqb}
+use lib.ListN.{length, take, drop, getD, length-drop}
+use lib.Seq.{drop-drop, drop-at, take-all, getD-drop, length-take-le}
+use Rattle.words.specs.Lists.{sum, rises}
+use Rattle.words.specs.Words.{Bytes, number, bytesOf, numberAt, word64, bytesOfWords, written, writtenAt}
+use Rattle.words.proofs.Lists.{sum-start, sum-turn, sum-end}
+use Rattle.words.proofs.Words.{first-word}
 use Rattle.words.proofs.Access.{write-more, write-none, length-writtenAt, beyond-kept}
-use Rattle.reading.specs.Interval.{rowBytes, Row, headerOf, rowAt, rowOf, rowsOf}
-use Rattle.reading.proofs.Bounds.{terms-in}
-use Rattle.reading.proofs.Walk.{rowPart, row-part, rowsLeft, rows-start, rows-turn, rows-end}
-use Rattle.assessment.specs.Assessment.{Account, raised, ChargedRow, chargedRow, Assessed, credit}
-use Rattle.assessment.proofs.Limits.{mostLimit, limit-le}
-use Rattle.assessment.proofs.SumLaws.{partFrom}
-use Rattle.ledger.specs.Ledger.{ledgerHeaderBytes, accountBytes, mostCents, mostCredited, accountAt, accountCount, ledgerOf, accountWords, accountOutside}
-use Rattle.settling.specs.Settling.{rowWords, assessedFile, posted, postedAll}
-use Rattle.settling.specs.Scratch.{Passed}
-use Rattle.ledger.proofs.Accounts.{accountPart, accountsLeft, accounts-start, accounts-turn, accounts-end}
-use Rattle.settling.proofs.Beside.{unmatched}
-use Rattle.settling.proofs.Meeting.{accountIds, rowIds, chargedIds, postedBeside, posted-met, posted-passed, posted-rest, posted-own, accounts-rise, all-meet}
-use Rattle.ledger.proofs.Sound.{account-in}
-use Rattle.settling.proofs.SettledLaws.{length-row-words, row-word, chargedOf, rows-are, count-is}
+use Rattle.reading.specs.Interval.{headerOf, rowWordsAt, rowWith, rowOf}
+use Rattle.reading.specs.Values.{rowIn}
+use Rattle.reading.specs.declared.header.Header.{Header as HeaderValue}
+use Rattle.reading.specs.declared.rows.Row.{Row as RowValue}
+use Rattle.reading.proofs.Facts.{row-count}
+use Rattle.reading.proofs.RowsLeft.{rowsLeft}
+use Rattle.assessment.specs.Assessment.{
+  mostCents,
+  Account,
+  emptyAccount,
+  raised,
+  added,
+  ChargedRow,
+  chargedRow,
+  Assessed,
+  totalBonus,
+  pool,
+  share,
+  credit,
+  credits,
+}
+use Rattle.assessment.specs.Values.{mostActual, accountIn}
+use Rattle.assessment.specs.declared.account.Account.{Account as AccountValue}
+use Rattle.assessment.proofs.Limits.{limit-le}
+use Rattle.assessment.proofs.Shares.{credits-le}
+use Rattle.ledger.specs.Ledger.{
+  ledgerHeaderBytes,
+  standingOf,
+  ledgerBytes,
+  accountAt,
+  accountCount,
+  ledgerOf,
+  accountWords,
+  idsIn,
+}
+use Rattle.ledger.specs.Values.{before}
+use Rattle.ledger.specs.declared.layout.Standing.{Standing as StandingValue}
+use Rattle.ledger.proofs.Accounts.{length-accounts, account-is, ids-behind, account-written}
+use Rattle.ledger.proofs.Sound.{read-rises}
+use Rattle.ledger.proofs.WalkLaws.{findsAll}
+use Rattle.settling.specs.Settling.{resultHeaderBytes, resultBytes, rowsWords, assessedFile, posted, postedAll}
+use Rattle.settling.specs.Values.{Passed}
+use Rattle.settling.proofs.Kept.{already-written, written-with, accountsFrom, accounts-stand}
+use Rattle.settling.proofs.Turns.{
+  Walks,
+  Found,
+  walk-starts,
+  accounts-are,
+  account-lies,
+  in-file,
+  row-within,
+  account-within,
+  rowAt,
+}
+use Rattle.settling.proofs.SettledLaws.{
+  Bounded,
+  chargedOf,
+  chargedAt,
+  chargedLeft,
+  charged-start,
+  charged-turn,
+  charged-end,
+  terms-within,
+  charged-bounded,
+}
+use Rattle.settling.proofs.PostedLaws.{accountIds, chargedIds, rises-drop, nothing-posted, posted-turn}
 
--- whether row i of a file is there and has an id
-module _ (f : List ℕ) (i n first id : ℕ) (count : n ≡ headerOf f .rowCount) where
-  -- from the number of rows on, there is no row i to have the id
-  pub no-row : n ≤ i → false ≡ (ltb i (headerOf f .rowCount) && eqb (rowAt (rowPart f i) [] .id) id)
-  no-row h = rw (le-ltb i (headerOf f .rowCount) (omega arith))
+-- the words of rows, their credits not known
+abbrev rowWords : List ChargedRow → List ℕ
+rowWords = rowsWords (λ c. 0)
 
-  -- below the number of rows, row i is there, and its first word as read tells whether it has the id
-  pub row-there : i < n → first ≡ headerOf f .rowsOffset → (w : ℕ) → w ≡ word32 (partFrom f (first + 56 * i)) 0
-      → eqb w id ≡ (ltb i (headerOf f .rowCount) && eqb (rowAt (rowPart f i) [] .id) id)
-  unfolding rowAt
-  row-there h place w e =
-      rw (lt-ltb i (headerOf f .rowCount) (omega arith)) (ap (λ w. eqb w id) (e ∙ ap (λ b. word32 b 0) (row-part f i place)))
+-- the words of a row without its credit
+abbrev sevenWords : ChargedRow → List ℕ
+sevenWords c =
+    let f = c .figures in
+    f .expected ∷ f .actual ∷ f .outage ∷ f .economic ∷ f .shortfall ∷ f .bonus ∷ c .charge ∷ []
 
--- what that says where it holds
-pub meets-row : (f : List ℕ) (i id : ℕ) (r : Bool) → r ≡ (ltb i (headerOf f .rowCount) && eqb (rowAt (rowPart f i) [] .id) id) → r ≡ true
-    → (i < headerOf f .rowCount) × (eqb (rowAt (rowPart f i) [] .id) id ≡ true)
-meets-row f i id r e taken =
-    let there = ltb i (headerOf f .rowCount) in
-    let own = eqb (rowAt (rowPart f i) [] .id) id in
-    let both = sym e ∙ taken in
-    (ltb-true i (headerOf f .rowCount) (first-holds there own both), second-holds there own both)
+-- a result in which the words of rows stand from row i on, their credits not known
+module _ (i : ℕ) (c : ChargedRow) (cs : List ChargedRow) (tail result : List ℕ)
+    (stands : drop (resultBytes i) result ≡ bytesOfWords 8 (rowWords (c ∷ cs)) ++ tail) where
+  -- word 5 of the next row is its bonus
+  bonus-stands : c .figures .bonus < 2 ^ 64 → word64 (drop (resultBytes i) result) 5 ≡ c .figures .bonus
+  unfolding word64 numberAt rowsWords bytesOfWords bytesOf
+  bonus-stands few =
+      ap (λ b. number 8 (drop 40 b)) stands
+      ∙ first-word 8 (c .figures .bonus) (c .charge ∷ 0 ∷ rowWords cs) tail few
 
--- the words of a posted account: raising reads its largest commitment alone, and its sums have the row's charge and credit added
-pub posted-written : (b x part : List ℕ) (at id largest charged credited cents share kw more given : ℕ)
-    → kw ≡ raised (rowAt part []) (record { id = 0; largest = largest; charged = 0; credited = 0 }) .largest
-    → more ≡ charged + cents → given ≡ credited + share → x ≡ writtenAt at (id ∷ kw ∷ more ∷ given ∷ []) b
-    → let a : Account = record { id = id; largest = largest; charged = charged; credited = credited } in
-    x ≡ writtenAt at (id ∷ raised (rowAt part []) a .largest ∷ (charged + cents) ∷ (credited + share) ∷ []) b
-unfolding raised
-posted-written b x part at id largest charged credited cents share kw more given raise charge credit put = rw (← raise, ← charge, ← credit) put
+  -- and word 6 its charge
+  charge-stands : c .charge < 2 ^ 64 → word64 (drop (resultBytes i) result) 6 ≡ c .charge
+  unfolding word64 numberAt rowsWords bytesOfWords bytesOf
+  charge-stands few = ap (λ b. number 8 (drop 48 b)) stands ∙ first-word 8 (c .charge) (0 ∷ rowWords cs) tail few
 
--- where no member passes a test, the one at i does not
-none-at : {A : Type 0} (p : A → Bool) (xs : List A) (i : ℕ) (d : A) → i < length xs → any p xs ≡ false → p (getD xs i d) ≡ false
-unfolding any
-none-at p [] i d h e = absurd (omega arith)
-none-at p (x ∷ xs) zero d h e = not-first (p x) (any p xs) e
-none-at p (x ∷ xs) (suc i) d h e = none-at p xs i d (omega arith) (not-second (p x) (any p xs) e)
+  -- the row's credit written behind its seven words is all eight written
+  credit-written : (cents : ℕ) → resultBytes (i + 1) ≤ length result
+      → writtenAt (resultBytes i + 56) (cents ∷ []) result
+      ≡ writtenAt (resultBytes i) (sevenWords c ++ (cents ∷ [])) result
+  unfolding rowsWords bytesOfWords bytesOf resultBytes
+  credit-written cents room =
+      let rest = bytesOfWords 8 (0 ∷ rowWords cs) ++ tail in
+      written-with (resultBytes i) (sevenWords c) result rest stands (cents ∷ []) (omega arith)
 
--- so it is with entry i of a table
-entry-fails : {A : Type 0} (p : A → Bool) (size : ℕ) (read : List ℕ → A) (n : ℕ) (b : List ℕ) (i : ℕ) → i < n → any p (entries size read n b) ≡ false → p (read (drop (size * i) b)) ≡ false
-entry-fails p size read n b i h e =
-    ap p (sym (entry-at size read n b i (read b) h)) ∙ none-at p (entries size read n b) i (read b) (omega (arith, length-entries size read n b)) e
+-- rows are credited, with row i next: from there on their words stand without credits, and writing them with credits
+-- makes the result of all rows
+pub record Crediting (ledger file result₀ result : List ℕ) (i : ℕ) : Type 0 where
+  pub long : length result ≡ length result₀
+  pub tail : List ℕ
+  pub stands : drop (resultBytes i) result ≡ bytesOfWords 8 (rowWords (chargedLeft ledger file i)) ++ tail
+  pub left : let v = assessedFile ledger file in
+      writtenAt (resultBytes i) (rowsWords (credit v) (chargedLeft ledger file i)) result
+      ≡ writtenAt resultHeaderBytes (rowsWords (credit v) (v .rows)) result₀
 
--- figures of a table's entries are entries of a table of figures
-map-entries : {A B : Type 0} (g : A → B) (size : ℕ) (read : List ℕ → A) (n : ℕ) (b : List ℕ) → map g (entries size read n b) ≡ entries size (λ d. g (read d)) n b
-unfolding entries
-map-entries g size read zero b = refl
-map-entries g size read (suc n) b = ap (λ rest. g (read b) ∷ rest) (map-entries g size read n (drop size b))
+-- a file and a ledger
+module _ (ledger file : List ℕ) where
+  -- the interval that the file makes of the ledger
+  abbrev interval : Assessed
+  interval = assessedFile ledger file
 
--- four words that are an account's
-pub account-is : (id largest charged credited : ℕ) (a : Account) → (id ≡ a .id) × (largest ≡ a .largest) × (charged ≡ a .charged) × (credited ≡ a .credited)
-    → _≡_ {A = Account} (record { id = id; largest = largest; charged = charged; credited = credited }) a
-account-is id largest charged credited a e = λ k. record { id = e .0 k; largest = e .1 k; charged = e .2 k; credited = e .3 k }
+  -- the words of its rows with their credits
+  abbrev creditedWords : List ChargedRow → List ℕ
+  creditedWords = rowsWords (credit interval)
 
--- an account after its own row
-posted-is : (v : Assessed) (c : ChargedRow) (a : Account) (kw cents share : ℕ) → eqb (c .row .id) (a .id) ≡ true → kw ≡ raised (c .row) a .largest → cents ≡ c .charge
-    → share ≡ credit v c → posted v c a ≡ record { id = a .id; largest = kw; charged = a .charged + cents; credited = a .credited + share }
-unfolding posted raised
-posted-is v c a kw cents share own raise charge credits =
-    rw own (λ k. record { id = a .id; largest = sym raise k; charged = a .charged + sym charge k; credited = a .credited + sym credits k })
+  -- before the first row, all words stand without credits
+  crediting-starts : (result : List ℕ) → resultHeaderBytes ≤ length result
+      → result ≡ writtenAt resultHeaderBytes (rowWords (interval .rows)) result → Crediting ledger file result result 0
+  unfolding resultBytes writtenAt written
+  crediting-starts result room same =
+      let ws = rowWords (interval .rows) in
+      let start = charged-start ledger file in
+      let tail = drop (8 * length ws) (drop resultHeaderBytes result) in
+      let front = length-take-le resultHeaderBytes result room in
+      record {
+        long = refl;
+        tail = tail;
+        stands =
+            ap (drop resultHeaderBytes) same
+            ∙ drop-at (take resultHeaderBytes result) (bytesOfWords 8 ws ++ tail) resultHeaderBytes front
+            ∙ ap (λ cs. bytesOfWords 8 (rowWords cs) ++ tail) start;
+        left = ap (λ cs. writtenAt resultHeaderBytes (creditedWords cs) result) (sym start);
+      }
 
--- a ledger b and a file f, before any row is posted
-module _ (b f : List ℕ) where
-  -- the interval that the file makes
-  abbrev pub v : Assessed
-  v = assessedFile b f
+  -- where no row is left, all are credited
+  crediting-ends : {result₀ result : List ℕ} {i : ℕ} → Crediting ledger file result₀ result i
+      → headerOf file .rowCount ≤ i → result ≡ writtenAt resultHeaderBytes (creditedWords (interval .rows)) result₀
+  unfolding rowsWords
+  crediting-ends {result₀} {result} {i} c end =
+      sym (write-none (resultBytes i) result)
+      ∙ ap (λ cs. writtenAt (resultBytes i) (creditedWords cs) result) (sym (charged-end ledger file i end))
+      ∙ c .left
 
-  -- a row, charged
-  abbrev pub charged : Row → ChargedRow
-  charged = chargedOf b f
+  -- row i is next
+  module _ {result₀ result : List ℕ} {i : ℕ} (c : Crediting ledger file result₀ result i)
+      (on : i < headerOf file .rowCount) where
+    -- the row, charged
+    abbrev here : ChargedRow
+    here = chargedAt ledger file i
 
-  -- the charged rows from i on
-  abbrev pub chargedLeft : ℕ → List ChargedRow
-  chargedLeft i = map charged (rowsLeft f i)
+    -- the rows behind it
+    abbrev later : List ChargedRow
+    later = chargedLeft ledger file (i + 1)
 
-  -- row i of the file, charged
-  abbrev pub chargedAt : ℕ → ChargedRow
-  chargedAt i = charged (rowOf f (rowPart f i))
+    -- its words stand in front of the others
+    row-stands : drop (resultBytes i) result ≡ bytesOfWords 8 (rowWords (here ∷ later)) ++ c .tail
+    row-stands = c .stands ∙ ap (λ cs. bytesOfWords 8 (rowWords cs) ++ c .tail) (charged-turn ledger file i on)
 
-  -- below the number of rows, the charged rows from i on are charged row i and those from i + 1 on
-  row-left : (i : ℕ) → i < headerOf f .rowCount → chargedLeft i ≡ chargedAt i ∷ chargedLeft (i + 1)
-  row-left i h = ap (map charged) (rows-turn f i h)
-
-  -- the id of charged row i is the one read without its points
-  row-id : (i : ℕ) → chargedAt i .row .id ≡ rowAt (rowPart f i) [] .id
-  unfolding chargedRow rowOf rowAt
-  row-id i = refl
-
-  -- read without its points, row i raises an account as charged row i does
-  row-raises : (i : ℕ) (a : Account) → raised (rowAt (rowPart f i) []) a .largest ≡ raised (chargedAt i .row) a .largest
-  unfolding raised chargedRow rowOf rowAt
-  row-raises i a = refl
-
-  -- charging keeps the ids
-  charged-ids : chargedIds (v .rows) ≡ rowIds (rowsOf f)
-  unfolding chargedRow
-  charged-ids = ap chargedIds (rows-are b f) ∙ map-map (λ c. c .row .id) charged (rowsOf f)
-
-  -- the rows' words in scratch
-  module _ (rows : List ℕ) (filled : rows ≡ rowWords (credit v) (v .rows)) where
-    -- scratch has eight words for each row of the file
-    pub rows-long : length rows ≡ 8 * headerOf f .rowCount
-    rows-long =
-        omega (arith, ap length filled, length-row-words (credit v) (v .rows), count-is b f)
-
-    -- word k of row i in scratch is word k of charged row i in the result
-    word-at : (i k : ℕ) → k < 8 → i < headerOf f .rowCount → getD rows (8 * i + k) 0 ≡ getD (rowWords (credit v) (chargedAt i ∷ [])) k 0
-    unfolding rowsOf
-    word-at i k low h =
-        let own : ChargedRow → ℕ = λ c. getD (rowWords (credit v) (c ∷ [])) k 0 in
-        let n = headerOf f .rowCount in
-        let at = headerOf f .rowsOffset in
-        ap (λ ws. getD ws (8 * i + k) 0) (filled ∙ ap (rowWords (credit v)) (rows-are b f))
-        ∙ row-word (credit v) k low (map charged (rowsOf f)) i
-        ∙ ap (λ ws. getD ws i 0) (map-map own charged (rowsOf f) ∙ map-entries (λ r. own (charged r)) rowBytes (rowOf f) n (drop at f))
-        ∙ entry-at rowBytes (λ d. own (charged (rowOf f d))) n (drop at f) i 0 h
-        ∙ ap (λ d. own (charged (rowOf f d))) (drop-drop (rowBytes * i) at f)
-
-    -- word 6 of row i in scratch is its charge
-    pub charge-at : (i : ℕ) → i < headerOf f .rowCount → getD rows (8 * i + 6) 0 ≡ chargedAt i .charge
-    unfolding rowWords
-    charge-at i h = word-at i 6 (omega arith) h
-
-    -- word 7 of row i in scratch is its credit
-    pub credit-at : (i : ℕ) → i < headerOf f .rowCount → getD rows (8 * i + 7) 0 ≡ credit v (chargedAt i)
-    unfolding rowWords
-    credit-at i h = word-at i 7 (omega arith) h
-
-  -- the ledger once the accounts before j are written and the rows before i are posted: what is left to write makes it the ledger with all posted
-  pub record Left (ledger : List ℕ) (i j : ℕ) : Type 0 where
-    pub long : length ledger ≡ length b
-    pub later : drop (64 + 32 * j) ledger ≡ drop (64 + 32 * j) b
-    pub left : writtenAt (64 + 32 * j) (accountWords (postedBeside v (accountsLeft b j) (chargedLeft i))) ledger
-        ≡ writtenAt 64 (accountWords (postedBeside v (ledgerOf b .accounts) (v .rows))) b
-
-  -- before any account is written, all accounts and all rows are left
-  pub left-start : Left b 0 0
-  left-start = record {
-    long = refl;
-    later = refl;
-    left = ap₂ (λ accounts rows. writtenAt 64 (accountWords (postedBeside v accounts rows)) b) (sym (accounts-start b)) (ap (map charged) (sym (rows-start f)) ∙ sym (rows-are b f));
-  }
-
-  -- what an account of the ledger has at most
-  account-small : Passed b f → (j : ℕ) → j < accountCount b
-      → let a = accountAt (accountPart b j) in (a .charged ≤ mostLimit) × (a .credited ≤ mostCredited)
-  unfolding ledgerOf
-  account-small p j h =
-      let t = ledgerOf b .terms in
-      let none : accountOutside t (accountAt (accountPart b j)) ≡ false
-      = ap (λ d. accountOutside t (accountAt d)) (sym (drop-drop (accountBytes * j) ledgerHeaderBytes b))
-      ∙ entry-fails (accountOutside t) accountBytes accountAt (accountCount b) (drop ledgerHeaderBytes b) j h (p .accounts) in
-      let a = account-in t (accountAt (accountPart b j)) none in
-      let most = limit-le t (accountAt (accountPart b j) .largest) (terms-in t (p .terms)) (a .largest) in
-      (omega (arith, a .charged, most), a .credited)
-
-  -- so a charge and a credit added to it fit
-  pub sums-fit : Passed b f → (ledger : List ℕ) (i j : ℕ) → Left ledger i j → j < accountCount b → (charged credited cents share : ℕ)
-      → charged ≡ accountAt (drop (64 + 32 * j) ledger) .charged → credited ≡ accountAt (drop (64 + 32 * j) ledger) .credited
-      → cents ≤ mostCents → share ≤ mostCents → (charged + cents < 2 ^ 64) × (credited + share < 2 ^ 64)
-  sums-fit p ledger i j s h charged credited cents share is-charged is-credited few little =
-      let most = account-small p j h in
-      let more = is-charged ∙ ap (λ d. accountAt d .charged) (s .later) in
-      let less = is-credited ∙ ap (λ d. accountAt d .credited) (s .later) in
-      (omega (arith, most .0, more, few), omega (arith, most .1, less, little))
-
-  -- one account more has been written
-  module _ (ledger x : List ℕ) (i j k : ℕ) (h : j < accountCount b) (room : 64 + 32 * accountCount b ≤ length b) (s : Left ledger i j) where
-    -- where the four words put are the first of those left, the accounts from j + 1 on are left to write
-    written-turn : (id largest charge credit : ℕ) → x ≡ writtenAt (64 + 32 * j) (id ∷ largest ∷ charge ∷ credit ∷ []) ledger
-        → accountWords (postedBeside v (accountsLeft b j) (chargedLeft i)) ≡ (id ∷ largest ∷ charge ∷ credit ∷ []) ++ accountWords (postedBeside v (accountsLeft b (j + 1)) (chargedLeft k))
-        → Left x k (j + 1)
-    written-turn id largest charge credit put words =
-        let at = 64 + 32 * j in
-        let four : List ℕ = id ∷ largest ∷ charge ∷ credit ∷ [] in
-        let next : 64 + 32 * (j + 1) ≡ at + 32 = omega arith in
-        let fits : at + 32 ≤ length ledger = omega (arith, s .long) in
-        let rest = accountWords (postedBeside v (accountsLeft b (j + 1)) (chargedLeft k)) in
+    -- once its credit is written, the others are left
+    crediting-turn : {after : List ℕ} {cents : ℕ} → resultBytes (i + 1) ≤ length result → cents ≡ credit interval here
+        → after ≡ writtenAt (resultBytes i + 56) (cents ∷ []) result → Crediting ledger file result₀ after (i + 1)
+    unfolding rowsWords resultBytes bytesOfWords bytesOf
+    crediting-turn {after} {cents} room credits put =
+        let at = resultBytes i in
+        let eight = creditedWords (here ∷ []) in
+        let next : resultBytes (i + 1) ≡ at + 8 * 8 = omega arith in
+        let fits : at + 8 * 8 ≤ length result = omega arith in
+        let all : after ≡ writtenAt at eight result
+        = put
+        ∙ credit-written i here later (c .tail) result row-stands cents room
+        ∙ ap (λ cents. writtenAt at (sevenWords here ++ (cents ∷ [])) result) credits in
         record {
-          long = ap length put ∙ length-writtenAt at four ledger fits ∙ s .long;
-          later = rw (next, put) (beyond-kept at four ledger fits ∙ sym (drop-drop 32 at ledger) ∙ ap (drop 32) (s .later) ∙ drop-drop 32 at b);
-          left = rw (next, put) (write-more at four rest ledger fits ∙ ap (λ ws. writtenAt at ws ledger) (sym words) ∙ s .left);
+          long = ap length all ∙ length-writtenAt at eight result fits ∙ c .long;
+          tail = c .tail;
+          stands =
+              ap₂ drop next all
+              ∙ beyond-kept at eight result fits
+              ∙ sym (drop-drop 64 at result)
+              ∙ ap (drop 64) row-stands;
+          left =
+              ap₂ (λ k r. writtenAt k (creditedWords later) r) next all
+              ∙ write-more at eight (creditedWords later) result fits
+              ∙ ap (λ cs. writtenAt at (creditedWords cs) result) (sym (charged-turn ledger file i on))
+              ∙ c .left;
         }
 
-    module _ (a : Account) (same : a ≡ accountAt (drop (64 + 32 * j) ledger)) where
-      -- the accounts from the next on
-      abbrev next-accounts : List Account
-      next-accounts = accountsLeft b (j + 1)
+-- the words of accounts, one list behind the other
+words-append : (xs ys : List Account) → accountWords (xs ++ ys) ≡ accountWords xs ++ accountWords ys
+unfolding accountWords
+words-append [] ys = refl
+words-append (a ∷ xs) ys = ap (λ rest. a .id ∷ a .largest ∷ a .charged ∷ a .credited ∷ rest) (words-append xs ys)
 
-      -- what this account and those after it become, where it becomes another
-      turn-words : (rows : List ChargedRow) (to : Account) → chargedLeft i ≡ rows
-          → postedBeside v (a ∷ next-accounts) rows ≡ to ∷ postedBeside v next-accounts (chargedLeft k)
-          → accountWords (postedBeside v (accountsLeft b j) (chargedLeft i))
-          ≡ (to .id ∷ to .largest ∷ to .charged ∷ to .credited ∷ []) ++ accountWords (postedBeside v next-accounts (chargedLeft k))
-      unfolding accountWords
-      turn-words rows to is e =
-          let this = accounts-turn b j h ∙ ap (λ a. a ∷ next-accounts) (sym (same ∙ ap accountAt (s .later))) in
-          ap accountWords (ap₂ (postedBeside v) this is ∙ e)
+-- four words an account
+length-words : (xs : List Account) → length (accountWords xs) ≡ 4 * length xs
+unfolding accountWords
+length-words [] = refl
+length-words (a ∷ xs) = omega (arith, length-words xs)
 
-      -- no row meets this account
-      pub turn-without : x ≡ writtenAt (64 + 32 * j) (a .id ∷ a .largest ∷ a .charged ∷ a .credited ∷ []) ledger
-          → (ltb i (headerOf f .rowCount) && eqb (rowAt (rowPart f i) [] .id) (a .id)) ≡ false → k ≡ i → Left x k (j + 1)
-      turn-without put none to-next = by (ltb i (headerOf f .rowCount)) refl none
-        where
-          by : (t : Bool) → ltb i (headerOf f .rowCount) ≡ t → (t && eqb (rowAt (rowPart f i) [] .id) (a .id)) ≡ false → Left x k (j + 1)
-          by true e other =
-              let here = row-left i (ltb-true i (headerOf f .rowCount) e) in
-              let past = posted-passed v a next-accounts (chargedAt i) (chargedLeft (i + 1)) (ap (λ id. eqb id (a .id)) (row-id i) ∙ other) in
-              written-turn (a .id) (a .largest) (a .charged) (a .credited) put
-              (turn-words (chargedAt i ∷ chargedLeft (i + 1)) a here (past ∙ ap (λ rows. a ∷ postedBeside v next-accounts rows) (sym here ∙ ap chargedLeft (sym to-next))))
-          by false e other =
-              let here = ap (map charged) (rows-end f i (ltb-false i (headerOf f .rowCount) e)) in
-              written-turn (a .id) (a .largest) (a .charged) (a .credited) put
-              (turn-words [] a here (posted-rest v a next-accounts ∙ ap (λ rows. a ∷ postedBeside v next-accounts rows) (sym here ∙ ap chargedLeft (sym to-next))))
+-- what is left of a mapped list is what is left, mapped
+drop-map : {A B : Type 0} (g : A → B) (i : ℕ) (xs : List A) → drop i (map g xs) ≡ map g (drop i xs)
+drop-map g zero xs = refl
+drop-map g (suc i) [] = refl
+drop-map g (suc i) (x ∷ xs) = drop-map g i xs
 
-      -- row i meets it
-      pub turn-with : (part : List ℕ) (cents share : ℕ) → part ≡ rowPart f i → cents ≡ chargedAt i .charge → share ≡ credit v (chargedAt i)
-          → x ≡ writtenAt (64 + 32 * j) (a .id ∷ raised (rowAt part []) a .largest ∷ (a .charged + cents) ∷ (a .credited + share) ∷ []) ledger
-          → i < headerOf f .rowCount → eqb (rowAt (rowPart f i) [] .id) (a .id) ≡ true → k ≡ i + 1 → Left x k (j + 1)
-      turn-with part cents share row charge credits put there met to-next =
-          let own = ap (λ id. eqb id (a .id)) (row-id i) ∙ met in
-          let to : Account = record { id = a .id; largest = raised (rowAt part []) a .largest; charged = a .charged + cents; credited = a .credited + share } in
-          let kw = ap (λ b. raised (rowAt b []) a .largest) row ∙ row-raises i a in
-          let is = posted-is v (chargedAt i) a (to .largest) cents share own kw charge credits in
-          let past = posted-met v a next-accounts (chargedAt i) (chargedLeft (i + 1)) own in
-          written-turn (to .id) (to .largest) (to .charged) (to .credited) put
-          (turn-words (chargedAt i ∷ chargedLeft (i + 1)) to (row-left i there)
-          (past ∙ ap₂ (λ a rows. a ∷ postedBeside v next-accounts rows) is (ap chargedLeft (sym to-next))))
+-- bytes that are as they were from a place on are so from a later place on
+behind-more : (at to : ℕ) (a b : List ℕ) → at ≤ to → drop at a ≡ drop at b → drop to a ≡ drop to b
+behind-more at to a b h e =
+    let more = to - at in
+    let far : at + more ≡ to = omega arith in
+    ap (λ k. drop k a) (sym far)
+    ∙ sym (drop-drop more at a)
+    ∙ ap (drop more) e
+    ∙ drop-drop more at b
+    ∙ ap (λ k. drop k b) far
 
-  -- all accounts are written
-  pub left-none : Passed b f → (ledger : List ℕ) (i j : ℕ) → accountCount b ≤ j → Left ledger i j
-      → ledger ≡ writtenAt 64 (accountWords (map (postedAll v (v .rows)) (ledgerOf b .accounts))) b
-  unfolding postedBeside accountWords
-  left-none p ledger i j h s =
-      let at = 64 + 32 * j in
-      let up = accounts-rise b f p in
-      let own = posted-own v 0 (ledgerOf b .accounts) (v .rows) up (ap (λ ids. unmatched (accountIds (ledgerOf b .accounts)) ids) charged-ids ∙ all-meet b f p) in
-      sym (write-none at ledger)
-      ∙ ap (λ accounts. writtenAt at (accountWords (postedBeside v accounts (chargedLeft i))) ledger) (sym (accounts-end b j h))
-      ∙ s .left
-      ∙ ap (λ accounts. writtenAt 64 (accountWords accounts) b) own
+-- rows are posted to the accounts of a ledger b, with row i and account j next: from there on the bytes are as they
+-- were, and posting the rows left makes the ledger with all posted
+pub record Posting (b file ledger : List ℕ) (i j : ℕ) : Type 0 where
+  pub bytes : length ledger ≡ length b
+  pub standing : standingOf ledger ≡ standingOf b
+  pub behind : drop (ledgerBytes j) ledger ≡ drop (ledgerBytes j) b
+  pub left : let v = assessedFile b file in
+      let accounts = ledgerOf b .accounts in
+      writtenAt (ledgerBytes j) (accountWords (map (postedAll v (chargedLeft b file i)) (drop j accounts))) ledger
+      ≡ writtenAt ledgerHeaderBytes (accountWords (map (postedAll v (v .rows)) accounts)) b
+
+-- before the first row, all is left
+posting-starts : (b file : List ℕ) → Posting b file b 0 0
+unfolding ledgerBytes
+posting-starts b file =
+    let words : List ChargedRow → List ℕ
+    = λ cs. accountWords (map (postedAll (assessedFile b file) cs) (ledgerOf b .accounts)) in
+    record {
+      bytes = refl;
+      standing = refl;
+      behind = refl;
+      left = ap (λ cs. writtenAt ledgerHeaderBytes (words cs) b) (sym (charged-start b file));
+    }
+
+-- a ledger b and a file that grounds 6 to 14 do not refuse
+module _ {b file : List ℕ} {s : StandingValue} {h : HeaderValue} (p : Passed b s file h) (bytes : Bytes b) where
+  -- the interval that the file makes of the ledger
+  abbrev v : Assessed
+  v = assessedFile b file
+
+  -- the ledger's accounts
+  abbrev accounts : List Account
+  accounts = ledgerOf b .accounts
+
+  -- some rows are posted
+  module _ {ledger : List ℕ} {i j : ℕ} (posting : Posting b file ledger i j) where
+    -- the ledger has as many accounts
+    pub count-kept : accountCount ledger ≡ accountCount b
+    unfolding accountCount
+    count-kept = ap (λ s. s .accountCount) (posting .standing)
+
+    -- and the same ids from account j on
+    pub ids-kept : drop j (idsIn (ledgerOf ledger)) ≡ drop j (idsIn (ledgerOf b))
+    ids-kept = ids-behind b ledger j count-kept (posting .behind)
+
+    -- the accounts from j on
+    abbrev rest : List Account
+    rest = drop j accounts
+
+    -- n of them stand in it
+    accounts-there : (n : ℕ) → j + n ≤ accountCount b
+        → drop (ledgerBytes j) ledger ≡ bytesOfWords 8 (accountsFrom b n j) ++ drop (ledgerBytes (j + n)) b
+    accounts-there n few = posting .behind ∙ accounts-stand b n j bytes few (rw (← accounts-are p) (p .ledger-read .room))
+
+    -- where no row is left, all are posted
+    posting-ends : headerOf file .rowCount ≤ i → j ≤ accountCount b
+        → ledger ≡ writtenAt ledgerHeaderBytes (accountWords (map (postedAll v (v .rows)) accounts)) b
+    posting-ends end few =
+        let n = accountCount b - j in
+        let at = ledgerBytes j in
+        let whole : take n rest ≡ rest = take-all n rest (omega (arith, length-drop j accounts, length-accounts b)) in
+        let there = accounts-there n (omega arith) in
+        let words : List ChargedRow → List ℕ = λ cs. accountWords (map (postedAll v cs) rest) in
+        sym (already-written at (accountsFrom b n j) ledger (drop (ledgerBytes (j + n)) b) there)
+        ∙ ap (λ l. writtenAt at (accountWords l) ledger) (whole ∙ sym (nothing-posted v rest))
+        ∙ ap (λ cs. writtenAt at (words cs) ledger) (sym (charged-end b file i end))
+        ∙ posting .left
+
+    -- the walk finds row i at account k
+    module _ {k : ℕ} (on : i < headerOf file .rowCount) (walks : Walks b file i j) (found : Found b file i j k) where
+      -- the row, charged
+      abbrev this : ChargedRow
+      this = chargedAt b file i
+
+      -- the rows behind it
+      abbrev others : List ChargedRow
+      others = chargedLeft b file (i + 1)
+
+      -- the account that is read there is as it was
+      account-kept : accountAt (drop (ledgerBytes k) ledger) ≡ accountAt (drop (ledgerBytes k) b)
+      unfolding ledgerBytes
+      account-kept =
+          let low : ledgerBytes j ≤ ledgerBytes k = omega (arith, found .place) in
+          ap accountAt (behind-more (ledgerBytes j) (ledgerBytes k) ledger b low (posting .behind))
+
+      -- so many accounts are passed by
+      abbrev passed : ℕ
+      passed = before (rowWordsAt file i .id) (accountIds rest)
+
+      -- the ids of the accounts from j on
+      ids-from : drop j (idsIn (ledgerOf b)) ≡ accountIds rest
+      unfolding idsIn
+      ids-from = drop-map (λ a. a .id) j accounts
+
+      -- the row's account stands behind those passed by
+      place-is : k ≡ j + passed
+      place-is = found .place ∙ ap (λ xs. j + before (rowWordsAt file i .id) xs) ids-from
+
+      -- with the rows left posted, accounts passed by are as they were, the row's own has the row posted, and those
+      -- behind it the other rows
+      rest-turn : map (postedAll v (chargedLeft b file i)) rest
+          ≡ take passed rest
+          ++ (posted v this (accountAt (drop (ledgerBytes k) b)) ∷ map (postedAll v others) (drop (k + 1) accounts))
+      unfolding Walks chargedOf chargedRow rowOf rowWith
+      rest-turn =
+          let none = emptyAccount 0 in
+          let turn = charged-turn b file i on in
+          let ids = ap chargedIds (sym turn) ∙ map-map (λ c. c .row .id) (chargedOf b file) (rowsLeft file i) in
+          let up = sym (ap rises ids-from) ∙ rises-drop j (idsIn (ledgerOf b)) (read-rises (p .ledger-read)) in
+          let mine : getD rest passed none ≡ accountAt (drop (ledgerBytes k) b)
+          = getD-drop j accounts passed none
+          ∙ ap (λ k. getD accounts k none) (sym place-is)
+          ∙ account-is b k none (found .within) in
+          let next : j + suc passed ≡ k + 1 = omega (arith, place-is) in
+          let behind = drop-drop (suc passed) j accounts ∙ ap (λ k. drop k accounts) next in
+          ap (λ cs. map (postedAll v cs) rest) turn
+          ∙ posted-turn v this others none rest up (ap₂ findsAll ids (sym ids-from) ∙ walks)
+          ∙ ap₂ (λ a more. take passed rest ++ (posted v this a ∷ map (postedAll v others) more)) mine behind
+
+      -- once the row is posted to it, the rows from i + 1 on are left for the accounts behind it
+      posting-turn : {after : List ℕ} (a : Account) → a ≡ posted v this (accountAt (drop (ledgerBytes k) b))
+          → after ≡ writtenAt (ledgerBytes k) (accountWords (a ∷ [])) ledger → Posting b file after (i + 1) (k + 1)
+      unfolding ledgerBytes accountWords
+      posting-turn {after} a posts put =
+          let at = ledgerBytes j in
+          let ws = accountsFrom b passed j in
+          let four = accountWords (a ∷ []) in
+          let own = accountAt (drop (ledgerBytes k) b) in
+          let more = map (postedAll v others) (drop (k + 1) accounts) in
+          let room : ledgerBytes k + 8 * 4 ≤ length ledger
+          = omega (arith, account-lies p (found .within), posting .bytes) in
+          let kept = account-written k a ledger after (omega arith) put in
+          let next : ledgerBytes (k + 1) ≡ ledgerBytes k + 8 * 4 = omega arith in
+          let few : passed ≤ length rest
+          = omega (arith, place-is, found .within, length-drop j accounts, length-accounts b) in
+          let size : length ws ≡ 4 * passed
+          = length-words (take passed rest) ∙ ap (λ n. 4 * n) (length-take-le passed rest few) in
+          let place : ledgerBytes k ≡ at + 8 * length ws = omega (arith, place-is, size) in
+          let words : accountWords (map (postedAll v (chargedLeft b file i)) rest) ≡ ws ++ (four ++ accountWords more)
+          = ap accountWords rest-turn
+          ∙ words-append (take passed rest) (posted v this own ∷ more)
+          ∙ ap (λ a. ws ++ accountWords (a ∷ more)) (sym posts) in
+          let there = accounts-there passed (omega (arith, place-is, found .within)) in
+          let tail = drop (ledgerBytes (j + passed)) b in
+          let new = four ++ accountWords more in
+          record {
+            bytes = kept .bytes ∙ posting .bytes;
+            standing = kept .standing ∙ posting .standing;
+            behind =
+                kept .behind
+                ∙ behind-more at (ledgerBytes (k + 1)) ledger b (omega (arith, found .place)) (posting .behind);
+            left =
+                ap₂ (λ at l. writtenAt at (accountWords more) l) next put
+                ∙ write-more (ledgerBytes k) four (accountWords more) ledger room
+                ∙ ap (λ at. writtenAt at new ledger) place
+                ∙ written-with at ws ledger tail there new (omega (arith, room, place))
+                ∙ ap (λ ws. writtenAt at ws ledger) (sym words)
+                ∙ posting .left;
+          }
+
+-- a pass that posts rows to a ledger b, with row i and account j next
+pub record Pass (b file result₀ ledger result : List ℕ) (cents i j : ℕ) : Type 0 where
+  pub walks : Walks b file i j
+  pub posting : Posting b file ledger i j
+  pub crediting : Crediting b file result₀ result i
+  pub credits : cents + sum (credit (assessedFile b file)) (chargedLeft b file i) ≡ credits (assessedFile b file)
+
+-- a ledger b and a file that grounds 6 to 14 do not refuse, of a pool that 16 does not refuse
+module _ {b file : List ℕ} {s : StandingValue} {h : HeaderValue} (p : Passed b s file h) (bytes : Bytes b)
+    (small : pool (assessedFile b file) ≤ mostCents) where
+  -- the interval that the file makes of the ledger
+  abbrev x : Assessed
+  x = assessedFile b file
+
+  -- the pass begins with all rows, where their words stand without credits
+  pub pass-starts : {result : List ℕ} → resultBytes (h .rows) ≤ length result
+      → result ≡ writtenAt resultHeaderBytes (rowWords (x .rows)) result → Pass b file result b result 0 0 0
+  unfolding resultBytes credits
+  pass-starts {result} room same = record {
+    walks = walk-starts p;
+    posting = posting-starts b file;
+    crediting = crediting-starts b file result (omega arith) same;
+    credits = sum-start (credit x) (charged-start b file);
+  }
+
+  module _ {result₀ ledger result : List ℕ} {cents i j : ℕ} (pass : Pass b file result₀ ledger result cents i j) where
+    -- where no row is left, all is posted and credited
+    pub pass-ends : h .rows ≤ i → j ≤ accountCount b
+        → (cents ≡ credits x)
+        × ((ledger ≡ writtenAt ledgerHeaderBytes (accountWords (map (postedAll x (x .rows)) (ledgerOf b .accounts))) b)
+        × (result ≡ writtenAt resultHeaderBytes (rowsWords (credit x) (x .rows)) result₀))
+    pass-ends end few =
+        let all : headerOf file .rowCount ≤ i = omega (arith, row-count (p .tabled .read)) in (
+          sum-end (credit x) cents (credits x) (charged-end b file i all) (pass .credits),
+          (posting-ends p bytes (pass .posting) all few, crediting-ends b file (pass .crediting) all),
+        )
+
+    -- row i is posted
+    module _ (taken : i < h .rows) where
+      -- the row, charged
+      abbrev one : ChargedRow
+      one = chargedAt b file i
+
+      -- the rows behind it
+      abbrev more : List ChargedRow
+      more = chargedLeft b file (i + 1)
+
+      -- its figures and its charge keep their bounds
+      one-bounded : Bounded one
+      one-bounded = charged-bounded p (rowAt file i) (row-within p taken)
+
+      -- its words stand in the result
+      one-stands : drop (resultBytes i) result ≡ bytesOfWords 8 (rowWords (one ∷ more)) ++ pass .crediting .tail
+      one-stands = row-stands b file (pass .crediting) (in-file p taken)
+
+      -- the bonus that is read there is its own
+      pub bonus-read : {kw : ℕ} → kw ≡ word64 (drop (resultBytes i) result) 5
+          → (kw ≡ one .figures .bonus) × (kw ≤ mostActual)
+      bonus-read read =
+          let most = one-bounded .figures .bonus in
+          let own = bonus-stands i one more (pass .crediting .tail) result one-stands (omega (arith, most)) in
+          (read ∙ own, omega (arith, read, own, most))
+
+      -- and so is the charge
+      pub charge-read : {charge : ℕ} → charge ≡ word64 (drop (resultBytes i) result) 6 → charge ≡ one .charge
+      charge-read read =
+          read ∙ charge-stands i one more (pass .crediting .tail) result one-stands (omega (arith, one-bounded .charge))
+
+      -- the share of its bonus is its credit
+      pub credit-is : {given cash total kw : ℕ} → cash ≡ pool x → total ≡ totalBonus x → kw ≡ one .figures .bonus
+          → given ≡ share cash total kw → given ≡ credit x one
+      unfolding credit
+      credit-is cash-is total-is kw-is given-is = given-is ∙ (λ k. share (cash-is k) (total-is k) (kw-is k))
+
+      module _ {given : ℕ} (credited : given ≡ credit x one) where
+        -- it is left to add to the sum so far
+        credits-next : cents + given + sum (credit x) more ≡ credits x
+        credits-next =
+            let turn = charged-turn b file i (in-file p taken) in
+            sum-turn (credit x) cents (credits x) given turn (pass .credits) credited
+
+        -- so the sum with it is at most the most cents
+        pub credits-more : cents + given ≤ mostCents
+        credits-more = omega (arith, credits-next, credits-le x, small)
+
+        -- the walk finds its account, which is read as a and raised as r
+        module _ {k : ℕ} (found : Found b file i j k) {charge : ℕ} (charged : charge ≡ one .charge)
+            (row : RowValue) (read : rowIn row ≡ rowWordsAt file i) (a r : AccountValue)
+            (account : accountIn a ≡ accountAt (drop (ledgerBytes k) ledger))
+            (raise : accountIn r ≡ raised (row .committed) (accountIn a)) where
+          -- the account as it was before the interval
+          abbrev own : Account
+          own = accountAt (drop (ledgerBytes k) b)
+
+          -- is raised
+          as-raised : accountIn r ≡ raised (rowAt file i .committed) own
+          unfolding rowIn rowOf rowWith
+          as-raised =
+              let same = account ∙ account-kept p bytes (pass .posting) (in-file p taken) (pass .walks) found in
+              raise ∙ (λ k. raised (read k .committed) (same k))
+
+          -- charge and credit added to its sums fit
+          pub account-fits : (r .charged .0 + charge < 2 ^ 64) × (r .credited .0 + given < 2 ^ 64)
+          unfolding accountIn raised
+          account-fits =
+              let within = account-within p taken found in
+              let limit = limit-le (ledgerOf b .terms) (own .largest) (terms-within p) (within .largest) in
+              let sums = ap (λ a. a .charged) as-raised in (
+                omega (arith, sums, within .charged, limit, charged, one-bounded .charge),
+                omega (arith, ap (λ a. a .credited) as-raised, within .credited, credits-more),
+              )
+
+          -- with both added it is as the row leaves it
+          posted-own : posted x one own ≡ added (one .charge) (credit x one) (raised (rowAt file i .committed) own)
+          unfolding posted chargedOf chargedRow rowOf rowWith
+          posted-own = rw (eq-eqb (rowWordsAt file i .id) (own .id) (sym (found .id)))
+
+          -- once it is written, and the credit, the rows from i + 1 on are left
+          pub pass-turn : (out : AccountValue) → accountIn out ≡ added charge given (accountIn r)
+              → resultBytes (h .rows) ≤ length result₀ → {ledger′ result′ : List ℕ} {sums : ℕ}
+              → ledger′ ≡ writtenAt (ledgerBytes k) (accountWords (accountIn out ∷ [])) ledger
+              → result′ ≡ writtenAt (resultBytes i + 56) (given ∷ []) result → sums ≡ cents + given
+              → Pass b file result₀ ledger′ result′ sums (i + 1) (k + 1)
+          unfolding resultBytes
+          pass-turn out adds room put write sum =
+              let on = in-file p taken in
+              let posts = adds ∙ (λ k. added (charged k) (credited k) (as-raised k)) ∙ sym posted-own in
+              record {
+                walks = found .next;
+                posting = posting-turn p bytes (pass .posting) on (pass .walks) found (accountIn out) posts put;
+                crediting =
+                    crediting-turn b file (pass .crediting) on (omega (arith, pass .crediting .long)) credited write;
+                credits = rw sum credits-next;
+              }

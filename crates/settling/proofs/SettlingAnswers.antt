@@ -8,7 +8,14 @@ use borrow.Author.Tests.{eq-eqb}
 use Rattle.words.specs.Words.{written}
 use Rattle.words.specs.Grounds.{answered}
 use Rattle.ledger.specs.Ledger.{ledgerWords}
-use Rattle.settling.specs.Settling.{assessedFile, resultWords, settledLedger, settlingGrounds, SettlingAnswer, settling}
+use Rattle.settling.specs.Settling.{
+  assessedFile,
+  resultWords,
+  settledLedger,
+  settlingGrounds,
+  SettlingAnswer,
+  settling,
+}
 
 -- the answer of an accepted call
 abbrev pub settledAnswer : List ℕ → List ℕ → List ℕ → SettlingAnswer
@@ -19,12 +26,14 @@ settledAnswer ledger file result = record {
 }
 
 -- where no ground of settling applies, the call answers 0 and writes the settled ledger and the result
-pub settling-accepts : (ledger file result : List ℕ) → answered (settlingGrounds ledger file result) ≡ 0 → settling ledger file result ≡ settledAnswer ledger file result
+pub settling-accepts : (ledger file result : List ℕ) → answered (settlingGrounds ledger file result) ≡ 0
+    → settling ledger file result ≡ settledAnswer ledger file result
 unfolding settling
 settling-accepts ledger file result e = rw (eq-eqb (answered (settlingGrounds ledger file result)) 0 e)
 
 -- where a ground of settling applies, the call answers it and leaves both buffers as they were
 pub settling-refuses : (ledger file result : List ℕ) → eqb (answered (settlingGrounds ledger file result)) 0 ≡ false
-    → settling ledger file result ≡ record { ground = answered (settlingGrounds ledger file result); ledger = ledger; result = result }
+    → settling ledger file result
+    ≡ record { ground = answered (settlingGrounds ledger file result); ledger = ledger; result = result }
 unfolding settling
 settling-refuses ledger file result e = rw e

@@ -1,3 +1,3 @@
 pub mod Settling
-pub mod Scratch
-pub mod Listing
+pub mod Values
+pub mod Figures

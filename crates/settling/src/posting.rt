@@ -1,129 +1,63 @@
-// What an accepted file leaves in the ledger and in the result.
+// What an accepted file leaves in its rows' accounts and credits.
 
-use crate::grounds::RESULT_HEADER_BYTES;
-use crate::scratch::CHARGE;
-use crate::scratch::CREDIT;
-use crate::scratch::ROW_WORDS;
-use assessment::rules::raised;
+use crate::result::charged_at;
+use crate::result::write_credit;
+use assessment::ratio::Share;
 use assessment::units::Cents;
 use assessment::units::Kilowatts;
-use ledger::layout::ACCOUNT_BYTES;
-use ledger::layout::ACCOUNTS;
-use ledger::layout::Account;
-use ledger::layout::HEADER_BYTES;
+use ledger::layout::Standing;
 use ledger::layout::account_at;
-use ledger::layout::word as ledger_word;
 use ledger::layout::write_account;
-use reading::interval::ID;
-use reading::interval::ROW_BYTES;
-use reading::interval::ROWS;
-use reading::interval::ROWS_OFFSET;
-use reading::interval::word;
-use words::store_words;
+use ledger::walk::Walk;
+use reading::header::Header;
+use reading::rows::row_at;
 ghost use mathlib.Core.Path.{_≡_};
-ghost use mathlib.Core.Bool.{_&&_};
-ghost use mathlib.Core.List.{_∷_, [], map};
-ghost use Prim.Native.Nat.{ℕ, _+_, _*_, _≤_, _<_, _^_};
-ghost use lib.ListN.{length, drop, getD};
-ghost use lib.Dec.{ltb, eqb};
-ghost use Rattle.words.specs.Words.{written, writtenAt};
-ghost use Rattle.reading.specs.Interval.{headerBytes, rowBytes, headerOf, rowAt};
-ghost use Rattle.assessment.specs.Assessment.{raised as raisedBy, credit};
-ghost use Rattle.ledger.specs.Ledger.{ledgerHeaderBytes, accountBytes, mostCents, accountWords, ledgerOf};
-ghost use Rattle.settling.specs.Settling.{resultHeaderBytes, rowWords, assessedFile, postedAll};
-ghost use Rattle.settling.specs.Scratch.{Passed};
+ghost use mathlib.Core.List.{map};
+ghost use Prim.Native.Nat.{_≤_};
+ghost use lib.ListN.{length};
+ghost use Rattle.words.specs.Words.{writtenAt};
+ghost use Rattle.assessment.specs.Assessment.{mostCents, totalBonus, pool, credit, credits};
+ghost use Rattle.ledger.specs.Ledger.{ledgerHeaderBytes, accountWords, ledgerOf};
+ghost use Rattle.settling.specs.Settling.{resultHeaderBytes, resultBytes, assessedFile, rowsWords, postedAll};
+ghost use Rattle.settling.specs.Values.{Passed};
 
-// Whether a file has a row i, and its id is this one.
-fn meets(file: &[u8], i: usize, id: u64) -> bool
-    requires { ⌜ headerBytes ≤ length (now file) ⌝ }
-    requires { ⌜ headerOf (now file) .rowsOffset + rowBytes * headerOf (now file) .rowCount ≤ length (now file) ⌝ }
-    ensures { λ r. ⌜ r ≡ (ltb i (headerOf (now (file .entry)) .rowCount) && eqb (rowAt (drop (headerOf (now (file .entry)) .rowsOffset + rowBytes * i) (now (file .entry))) [] .id) id) ⌝ }
-{
-    if word(file, ROWS) as usize <= i {
-        return false;
-    }
-    let first = word(file, ROWS_OFFSET) as usize;
-    word(&file[first + ROW_BYTES * i..], ID) == id
-}
-
-// Posts a row to its account at a byte offset: raised, with the row's charge and credit added.
-fn post_row(ledger: &mut [u8], at: usize, a: Account, row: &[u8], charge: Cents, credit: Cents)
-    requires { ⌜ at + accountBytes ≤ length (now ledger) ⌝ }
-    requires { ⌜ rowBytes ≤ length (now row) ⌝ }
-    requires { ⌜ a .charged .0 + charge .0 < 2 ^ 64 ⌝ }
-    requires { ⌜ a .credited .0 + credit .0 < 2 ^ 64 ⌝ }
-    ensures { λ _.
-        ⌜ now (ledger .exit) ≡ writtenAt at (a .id ∷ raisedBy (rowAt (now (row .entry)) []) (record { id = a .id; largest = a .largest .0; charged = a .charged .0; credited = a .credited .0 }) .largest ∷ (a .charged .0 + charge .0) ∷ (a .credited .0 + credit .0) ∷ []) (now (ledger .entry)) ⌝ }
-{
-    write_account(
-        ledger,
-        at,
-        a.id,
-        raised(row, a.largest),
-        a.charged.plus(charge),
-        a.credited.plus(credit),
-    );
-}
-
-// Posts every row to its account, and writes the other accounts as they were. Rows and accounts are walked side by side.
-pub fn post_rows(ledger: &mut [u8], file: &[u8], rows: &[u64])
-    requires { ⌜ Passed (now ledger) (now file) ⌝ }
-    requires { ⌜ now rows ≡ rowWords (credit (assessedFile (now ledger) (now file))) (assessedFile (now ledger) (now file) .rows) ⌝ }
-    requires { ⌜ ((k : ℕ) → getD (now rows) k 0 ≤ mostCents) ⌝ }
+// Writes the credit of every row, its share by its bonus, and posts charge and credit to its account. Answers the credits' sum.
+pub fn post_rows(
+    ledger: &mut [u8],
+    s: Standing,
+    file: &[u8],
+    h: Header,
+    share: Share,
+    result: &mut [u8],
+) -> Cents
+    requires { ⌜ Passed (now ledger) s (now file) h ⌝ }
+    requires { ⌜ resultBytes (h .rows) ≤ length (now result) ⌝ }
+    requires { ⌜ now result ≡ writtenAt resultHeaderBytes (rowsWords (λ c. 0) (assessedFile (now ledger) (now file) .rows)) (now result) ⌝ }
+    requires { ⌜ share .pool .0 ≡ pool (assessedFile (now ledger) (now file)) ⌝ }
+    requires { ⌜ share .pool .0 ≤ mostCents ⌝ }
+    requires { ⌜ share .bonus .0 ≡ totalBonus (assessedFile (now ledger) (now file)) ⌝ }
+    ensures { λ r. ⌜ r .0 ≡ credits (assessedFile (now (ledger .entry)) (now (file .entry))) ⌝ }
     ensures { λ _.
         let v = assessedFile (now (ledger .entry)) (now (file .entry)) in
         ⌜ now (ledger .exit) ≡ writtenAt ledgerHeaderBytes (accountWords (map (postedAll v (v .rows)) (ledgerOf (now (ledger .entry)) .accounts))) (now (ledger .entry)) ⌝ }
+    ensures { λ _.
+        let v = assessedFile (now (ledger .entry)) (now (file .entry)) in
+        ⌜ now (result .exit) ≡ writtenAt resultHeaderBytes (rowsWords (credit v) (v .rows)) (now (result .entry)) ⌝ }
 {
-    let accounts = ledger_word(ledger, ACCOUNTS) as usize;
-    let first = word(file, ROWS_OFFSET) as usize;
+    let mut credits = Cents(0);
+    let mut walk = Walk::start(s);
     let mut i = 0;
-    let mut j = 0;
-    while j < accounts {
-        let a = account_at(ledger, j);
-        let at = HEADER_BYTES + ACCOUNT_BYTES * j;
-        if meets(file, i, a.id) {
-            post_row(
-                ledger,
-                at,
-                a,
-                &file[first + ROW_BYTES * i..],
-                Cents(rows[ROW_WORDS * i + CHARGE]),
-                Cents(rows[ROW_WORDS * i + CREDIT]),
-            );
-            i += 1;
-        } else {
-            write_account(ledger, at, a.id, a.largest, a.charged, a.credited);
-        }
-        j += 1;
+    while i < h.rows {
+        let row = row_at(file, h, i);
+        walk = walk.to(ledger, row.id);
+        let account = account_at(ledger, walk.account).raised(Kilowatts(row.committed));
+        let charged = charged_at(result, i);
+        let credit = share.credit(charged.bonus);
+        write_credit(result, i, credit);
+        write_account(ledger, walk.account, account.added(charged.charge, credit));
+        credits = credits.plus(credit);
+        walk = walk.on();
+        i += 1;
     }
-}
-
-// Writes the result: the interval's eight words, then the rows'.
-pub fn write_result(
-    result: &mut [u8],
-    rows: &[u64],
-    ratio: u64,
-    charges: Cents,
-    credits: Cents,
-    carried: Cents,
-    bonus: Kilowatts,
-    numerator: Kilowatts,
-    denominator: Kilowatts,
-    count: u64,
-)
-    requires { ⌜ resultHeaderBytes + 8 * length (now rows) ≤ length (now result) ⌝ }
-    ensures { λ _. ⌜ now (result .exit) ≡ written (ratio ∷ charges .0 ∷ credits .0 ∷ carried .0 ∷ bonus .0 ∷ numerator .0 ∷ denominator .0 ∷ count ∷ now (rows .entry)) (now (result .entry)) ⌝ }
-{
-    let words = [
-        ratio,
-        charges.0,
-        credits.0,
-        carried.0,
-        bonus.0,
-        numerator.0,
-        denominator.0,
-        count,
-    ];
-    store_words(&words, result);
-    store_words(rows, &mut result[RESULT_HEADER_BYTES..]);
+    credits
 }

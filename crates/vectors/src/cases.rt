@@ -1,226 +1,147 @@
-// One case each: a row and the points behind it as bytes, or plain numbers, through the code, and what it gives printed.
+// One case each: a file of up to three rows, settled into a ledger of plants 1, 2 and 3, and one figure of its result printed.
+// What a refused call leaves is figures too: every byte of ledger and result begins as 255.
 
-use crate::print::six;
-use assessment::curve::considered;
-use assessment::curve::scheduled;
-use assessment::row::Figures;
-use assessment::row::row_figures;
-use assessment::rules::charge;
-use assessment::rules::full_charge;
-use assessment::rules::limit;
-use assessment::rules::portion;
-use assessment::rules::share;
-use assessment::sums::Ratio;
-use assessment::sums::ratio_sides;
-use assessment::units::Cents;
-use assessment::units::Kilowatts;
-use reading::interval::COMMITTED;
-use reading::interval::MOST_KILOWATTS;
-use reading::interval::POINT_COUNT;
-use reading::interval::ROW_BYTES;
-use reading::interval::header_outside;
-use reading::interval::not_a_file;
-use reading::interval::row_outside;
-use reading::interval::scan;
-use reading::interval::tables_misplaced;
-use reading::interval::word;
-use shown::layout::Header;
-use shown::layout::Row;
-use shown::layout::put_words;
-use shown::print::figure;
-use shown::print::test;
-ghost use Prim.Native.Nat.{_≤_};
+use figures::layout::Header;
+use figures::print::figure;
+use npa::npa_open;
+use npa::npa_settle;
+use words::number64;
+use words::store32;
+use words::store64;
+ghost use mathlib.Core.Path.{_≡_};
+ghost use Prim.Native.Nat.{_≤_, _<_};
 ghost use lib.ListN.{length};
 
-// Any numerator is below it.
-const MOST_NUMERATOR: u64 = 1099511627776;
+// Words of a row in the result.
+pub const ACTUAL: usize = 1;
 
-// What is printed of a case that the code does not take.
-const NOT_TAKEN: u64 = 18446744073709551615;
+pub const ECONOMIC: usize = 3;
 
-// A row, and up to ten points behind it.
-fn case_of(row: Row, points: &[u64]) -> [u8; 136]
+pub const SHORTFALL: usize = 4;
+
+pub const BONUS: usize = 5;
+
+pub const CHARGE: usize = 6;
+
+pub const CREDIT: usize = 7;
+
+// A header of interval 0 with so many rows and points; the rows begin at byte 40, the points after room for three rows.
+pub fn header(cone: u64, days: u64, rows: u64, points: u64) -> Header {
+    [1, 0, cone, days, 0, 0, rows, 40, points, 208]
+}
+
+// A ledger that was opened on terms.
+fn opened(cone: u64, days: u64) -> [u8; 160] {
+    let mut block = [0u8; 32];
+    let words = [1, cone, days, 3, 20, 1, 2, 3];
+    store32(&words, &mut block);
+    let mut ledger = [255u8; 160];
+    npa_open(&block, &mut ledger);
+    ledger
+}
+
+// A ledger in which plant 1 has a largest commitment and a charged sum, all of it carried.
+pub fn charged(cone: u64, days: u64, largest: u64, cents: u64) -> [u8; 160] {
+    let mut ledger = [0u8; 160];
+    let words = [
+        1,
+        cone,
+        days,
+        0,
+        cents,
+        3,
+        8,
+        0,
+        1,
+        largest,
+        cents,
+        0,
+        2,
+        0,
+        0,
+        0,
+        3,
+        0,
+        0,
+        0,
+    ];
+    store64(&words, &mut ledger);
+    ledger
+}
+
+// Writes a header, up to three rows after it, and up to ten points after room for three rows.
+fn put_file(file: &mut [u8], header: Header, rows: &[u64], points: &[u64])
+    requires { ⌜ length (now file) ≡ 288 ⌝ }
+    requires { ⌜ length (now rows) ≤ 42 ⌝ }
     requires { ⌜ length (now points) ≤ 20 ⌝ }
 {
-    let mut case = [0u8; 136];
-    put_words(&mut case, 0, &row);
-    put_words(&mut case, ROW_BYTES, points);
-    case
+    store32(&header, file);
+    store32(rows, &mut file[40..]);
+    store32(points, &mut file[208..]);
 }
 
-fn scheduled_kw(case: &[u8]) -> u64
-    requires { ⌜ 56 ≤ length (now case) ⌝ }
+// The bytes of such a file.
+fn file_of(header: Header, rows: &[u64], points: &[u64]) -> [u8; 288]
+    requires { ⌜ length (now rows) ≤ 42 ⌝ }
+    requires { ⌜ length (now points) ≤ 20 ⌝ }
 {
-    let points = (case.len() - ROW_BYTES) as u64;
-    if points < 8 * word(case, POINT_COUNT) {
-        return NOT_TAKEN;
-    }
-    let kw = scheduled(case, &case[ROW_BYTES..]);
-    kw.0
+    let mut file = [0u8; 288];
+    put_file(&mut file, header, rows, points);
+    file
 }
 
-fn is_considered(case: &[u8]) -> bool
-    requires { ⌜ 56 ≤ length (now case) ⌝ }
-{
-    let points = (case.len() - ROW_BYTES) as u64;
-    if points < 8 * word(case, POINT_COUNT) {
-        return false;
-    }
-    considered(case, &case[ROW_BYTES..])
-}
-
-fn not_taken() -> Figures {
-    Figures {
-        expected: Kilowatts(NOT_TAKEN),
-        actual: Kilowatts(NOT_TAKEN),
-        outage: Kilowatts(NOT_TAKEN),
-        economic: Kilowatts(NOT_TAKEN),
-        shortfall: Kilowatts(NOT_TAKEN),
-        bonus: Kilowatts(NOT_TAKEN),
-    }
-}
-
-fn figures_of(case: &[u8], numerator: Kilowatts, denominator: Kilowatts) -> Figures
-    requires { ⌜ 56 ≤ length (now case) ⌝ }
-{
-    let points = (case.len() - ROW_BYTES) as u64;
-    if points < 8 * word(case, POINT_COUNT) {
-        return not_taken();
-    }
-    if MOST_KILOWATTS < word(case, COMMITTED) {
-        return not_taken();
-    }
-    if MOST_NUMERATOR < numerator.0 {
-        return not_taken();
-    }
-    row_figures(case, &case[ROW_BYTES..], numerator, denominator)
-}
-
-// The two sides of a file's ratio; none where a ground refuses the file.
-pub fn sides(file: &[u8]) -> Ratio {
-    let none = Ratio {
-        numerator: Kilowatts(0),
-        denominator: Kilowatts(0),
-    };
-    if not_a_file(file) {
-        return none;
-    }
-    if tables_misplaced(file) {
-        return none;
-    }
-    if scan(file) != 0 {
-        return none;
-    }
-    ratio_sides(file)
-}
-
-// Prints the scheduled kW of a row.
-pub fn show_scheduled(label: &[u8], row: Row, points: &[u64])
+// Prints what settling a file into a ledger answers.
+pub fn show_ground(label: &[u8], ledger: [u8; 160], header: Header, rows: &[u64])
     requires { ⌜ length (now label) ≤ 64 ⌝ }
-    requires { ⌜ length (now points) ≤ 20 ⌝ }
+    requires { ⌜ length (now rows) ≤ 42 ⌝ }
 {
-    figure(label, scheduled_kw(&case_of(row, points)));
+    let mut books = ledger;
+    let mut result = [255u8; 256];
+    let ground = npa_settle(&mut books, &file_of(header, rows, &[]), &mut result);
+    figure(label, ground as u64);
 }
 
-// Prints whether a row is considered.
-pub fn show_considered(label: &[u8], row: Row, points: &[u64])
-    requires { ⌜ length (now label) ≤ 64 ⌝ }
-    requires { ⌜ length (now points) ≤ 20 ⌝ }
-{
-    test(label, is_considered(&case_of(row, points)));
-}
-
-// Prints the six figures of a row at a ratio.
-pub fn show_figures(
+// Prints a word of a row after settling a file into a ledger.
+pub fn show_in(
     label: &[u8],
-    row: Row,
+    ledger: [u8; 160],
+    header: Header,
+    rows: &[u64],
     points: &[u64],
-    numerator: Kilowatts,
-    denominator: Kilowatts,
+    row: usize,
+    word: usize,
 )
     requires { ⌜ length (now label) ≤ 64 ⌝ }
+    requires { ⌜ length (now rows) ≤ 42 ⌝ }
     requires { ⌜ length (now points) ≤ 20 ⌝ }
+    requires { ⌜ row < 3 ⌝ }
+    requires { ⌜ word < 8 ⌝ }
 {
-    six(
-        label,
-        figures_of(&case_of(row, points), numerator, denominator),
-    );
+    let mut books = ledger;
+    let mut result = [255u8; 256];
+    npa_settle(&mut books, &file_of(header, rows, points), &mut result);
+    figure(label, number64(&result, 64 + 64 * row + 8 * word));
 }
 
-// Prints whether ground 13 applies to a row.
-pub fn show_row_outside(label: &[u8], row: Row)
+// The same of a ledger that was opened on the header's terms.
+pub fn show(label: &[u8], header: Header, rows: &[u64], points: &[u64], row: usize, word: usize)
     requires { ⌜ length (now label) ≤ 64 ⌝ }
+    requires { ⌜ length (now rows) ≤ 42 ⌝ }
+    requires { ⌜ length (now points) ≤ 20 ⌝ }
+    requires { ⌜ row < 3 ⌝ }
+    requires { ⌜ word < 8 ⌝ }
 {
-    let mut case = [0u8; 56];
-    put_words(&mut case, 0, &row);
-    test(label, row_outside(&case));
+    let ledger = opened(header[2], header[3]);
+    show_in(label, ledger, header, rows, points, row, word);
 }
 
-// Prints whether ground 9 applies to a header.
-pub fn show_header_outside(label: &[u8], header: Header)
+// Prints the cents carried after settling a file into a ledger.
+pub fn show_carried(label: &[u8], ledger: [u8; 160], header: Header, rows: &[u64])
     requires { ⌜ length (now label) ≤ 64 ⌝ }
+    requires { ⌜ length (now rows) ≤ 42 ⌝ }
 {
-    let mut file = [0u8; 40];
-    put_words(&mut file, 0, &header);
-    test(label, header_outside(&file));
-}
-
-// Prints the charge for a shortfall before the limit cuts it.
-pub fn show_full_charge(label: &[u8], cone: u64, days: u64, short: u64)
-    requires { ⌜ length (now label) ≤ 64 ⌝ }
-    requires { ⌜ cone ≤ 200000 ⌝ }
-    requires { ⌜ days ≤ 366 ⌝ }
-    requires { ⌜ short ≤ 4000000 ⌝ }
-{
-    let cents = full_charge(cone, days, Kilowatts(short));
-    figure(label, cents.0);
-}
-
-// Prints the limit of a commitment.
-pub fn show_limit(label: &[u8], cone: u64, days: u64, kw: u64)
-    requires { ⌜ length (now label) ≤ 64 ⌝ }
-    requires { ⌜ cone ≤ 200000 ⌝ }
-    requires { ⌜ days ≤ 366 ⌝ }
-    requires { ⌜ kw ≤ 4000000 ⌝ }
-{
-    let cents = limit(cone, days, Kilowatts(kw));
-    figure(label, cents.0);
-}
-
-// Prints the charge at 30000 cents and 365 days to an account of a largest commitment and a charged sum.
-pub fn show_charge(label: &[u8], largest: u64, charged: u64, short: u64)
-    requires { ⌜ length (now label) ≤ 64 ⌝ }
-    requires { ⌜ largest ≤ 4000000 ⌝ }
-    requires { ⌜ short ≤ 4000000 ⌝ }
-{
-    let cents = charge(
-        30000,
-        365,
-        Kilowatts(largest),
-        Cents(charged),
-        Kilowatts(short),
-    );
-    figure(label, cents.0);
-}
-
-// Prints a share of a pool.
-pub fn show_share(label: &[u8], pool: u64, total: u64, bonus: u64)
-    requires { ⌜ length (now label) ≤ 64 ⌝ }
-    requires { ⌜ pool ≤ 1099511627775 ⌝ }
-    requires { ⌜ bonus ≤ 8000000 ⌝ }
-{
-    let cents = share(Cents(pool), Kilowatts(total), Kilowatts(bonus));
-    figure(label, cents.0);
-}
-
-// Prints a whole by a ratio.
-pub fn show_portion(label: &[u8], whole: u64, numerator: Kilowatts, denominator: Kilowatts)
-    requires { ⌜ length (now label) ≤ 64 ⌝ }
-    requires { ⌜ whole ≤ 4000000 ⌝ }
-{
-    if MOST_NUMERATOR < numerator.0 {
-        figure(label, NOT_TAKEN);
-        return;
-    }
-    figure(label, portion(whole, numerator, denominator));
+    let mut books = ledger;
+    let mut result = [255u8; 256];
+    npa_settle(&mut books, &file_of(header, rows, &[]), &mut result);
+    figure(label, number64(&books, 32));
 }

@@ -1,24 +1,23 @@
 // Figures of the trade's sources under document 01's rules: PJM's review of the October 2019 event, the settlement summary, and section 10A of the tariff. A published rate that is rounded to the nearest cent stands here rounded down.
 
-use crate::cases::show_charge;
-use crate::cases::show_figures;
-use crate::cases::show_full_charge;
-use crate::cases::show_header_outside;
-use crate::cases::show_limit;
-use crate::cases::show_portion;
-use crate::cases::show_row_outside;
-use crate::cases::show_scheduled;
-use crate::cases::show_share;
-use crate::cases::sides;
-use assessment::sums::Ratio;
-use assessment::units::Kilowatts;
-use shown::document::CURVE_12;
-use shown::layout::Header;
-use shown::layout::Row;
-use shown::layout::put_words;
+use crate::cases::BONUS;
+use crate::cases::CHARGE;
+use crate::cases::CREDIT;
+use crate::cases::ECONOMIC;
+use crate::cases::SHORTFALL;
+use crate::cases::charged;
+use crate::cases::header;
+use crate::cases::show;
+use crate::cases::show_ground;
+use crate::cases::show_in;
+use crate::document::show_charged;
+use crate::document::show_short;
+use figures::document::CURVE_12;
+ghost use Prim.Native.Nat.{_≤_};
+ghost use lib.ListN.{length};
 
-// A row that could run for 1000 MW and was scheduled below what it gave.
-const ECONOMIC: Row = [
+// A row that could run for 1000 MW and was scheduled below what it gave, and one that makes the ratio 700000.
+const SCHEDULED_BELOW: [u64; 28] = [
     1,
     0,
     1000000,
@@ -33,132 +32,268 @@ const ECONOMIC: Row = [
     3000,
     0,
     2,
+    2,
+    4,
+    0,
+    200000,
+    150000,
+    0,
+    0,
+    0,
+    200000,
+    0,
+    1,
+    3000,
+    2,
+    1,
 ];
 
-const ECONOMIC_POINTS: [u64; 4] = [1000, 0, 5000, 1000000];
+const SCHEDULED_POINTS: [u64; 6] = [1000, 0, 5000, 1000000, 0, 200000];
 
-// A row beside it, which makes the ratio 700000.
-const BESIDE: Row = [2, 4, 0, 200000, 150000, 0, 0, 0, 200000, 0, 1, 3000, 2, 1];
-
-const BESIDE_POINT: [u64; 2] = [0, 200000];
-
-// A solar row at night.
-const SOLAR: Row = [1, 0, 5000, 5000, 0, 0, 0, 0, 0, 0, 0, 3000, 0, 1];
+// A solar row at night, and one that makes the ratio 1.
+const SOLAR: [u64; 28] = [
+    1,
+    0,
+    5000,
+    5000,
+    0,
+    0,
+    0,
+    0,
+    0,
+    0,
+    0,
+    3000,
+    0,
+    1,
+    2,
+    4,
+    0,
+    5000,
+    5000,
+    0,
+    0,
+    0,
+    5000,
+    0,
+    1,
+    3000,
+    0,
+    1,
+];
 
 const SOLAR_POINT: [u64; 2] = [0, 0];
 
-// A row on the curve of the listing's row 12, from 1000 to 6000 cents.
-fn on_curve(online: u64, lmp: u64) -> Row {
-    [12, 0, 0, 0, 0, 0, 0, 0, 25000, 10000, online, lmp, 0, 2]
-}
+// Demand resources with a bonus of 1000 kW, and of 10853700 kW between them.
+const BONUSES: [u64; 42] = [
+    1,
+    1,
+    0,
+    0,
+    1000,
+    0,
+    0,
+    0,
+    0,
+    0,
+    0,
+    0,
+    0,
+    0,
+    2,
+    1,
+    0,
+    0,
+    4000000,
+    4000000,
+    0,
+    0,
+    0,
+    0,
+    0,
+    0,
+    0,
+    0,
+    3,
+    1,
+    0,
+    0,
+    2853700,
+    0,
+    0,
+    0,
+    0,
+    0,
+    0,
+    0,
+    0,
+    0,
+];
 
-// A header of an interval of a year of 366 days.
-fn header(interval: u64) -> Header {
-    [1, interval, 27955, 366, 0, 0, 1, 40, 0, 40]
-}
-
-fn row_at(lmp: u64) -> Row {
-    [1, 0, 0, 0, 0, 0, 0, 0, 0, 0, 0, lmp, 0, 0]
-}
-
-// Table 6 of the review: 1000 kW short, in 366 days.
+// Table 6 of the review: 1000 kW short, in 366 days. Table 9: the pool and the total bonus at 14:00.
 pub fn rates() {
-    show_full_charge(b"review, Table 6, RTO, Net CONE 27955: ", 27955, 366, 1000);
-    show_full_charge(b"review, Table 6, BGE, Net CONE 20139: ", 20139, 366, 1000);
-    show_full_charge(
+    show_short(b"review, Table 6, RTO, Net CONE 27955: ", 27955, 366, 1000);
+    show_short(b"review, Table 6, BGE, Net CONE 20139: ", 20139, 366, 1000);
+    show_short(
         b"review, Table 6, PEPCO, Net CONE 22811: ",
         22811,
         366,
         1000,
     );
-    show_full_charge(
+    show_short(
         b"review, Table 6, SWMAAC, Net CONE 21475: ",
         21475,
         366,
         1000,
     );
-    show_share(
+    show_in(
         b"review, Table 9, 14:00, credit of bonus 1000: ",
-        36909733,
-        10854700,
-        1000,
+        charged(27955, 366, 1000000, 36909733),
+        header(27955, 366, 3, 0),
+        &BONUSES,
+        &[],
+        0,
+        CREDIT,
     );
 }
 
-// The limit of 1000 kW at those rates.
+// The limit of 1000 kW at those rates: charged in full, and a cent more.
 pub fn limits() {
-    show_limit(b"10A(f), RTO, limit of 1000 kW: ", 27955, 366, 1000);
-    show_limit(b"10A(f), BGE, limit of 1000 kW: ", 20139, 366, 1000);
-    show_limit(b"10A(f), PEPCO, limit of 1000 kW: ", 22811, 366, 1000);
-    show_limit(b"10A(f), SWMAAC, limit of 1000 kW: ", 21475, 366, 1000);
-}
-
-fn economic_sides() -> Ratio {
-    let mut file = [0u8; 176];
-    let head = [1, 0, 30000, 365, 0, 0, 2, 40, 3, 152];
-    put_words(&mut file, 0, &head);
-    put_words(&mut file, 40, &ECONOMIC);
-    put_words(&mut file, 96, &BESIDE);
-    put_words(&mut file, 152, &ECONOMIC_POINTS);
-    put_words(&mut file, 168, &BESIDE_POINT);
-    sides(&file)
+    show_charged(
+        b"10A(f), RTO, 15347295 charged: ",
+        27955,
+        366,
+        1000,
+        15347295,
+    );
+    show_charged(
+        b"10A(f), RTO, 15347296 charged: ",
+        27955,
+        366,
+        1000,
+        15347296,
+    );
+    show_charged(
+        b"10A(f), BGE, 11056311 charged: ",
+        20139,
+        366,
+        1000,
+        11056311,
+    );
+    show_charged(
+        b"10A(f), BGE, 11056312 charged: ",
+        20139,
+        366,
+        1000,
+        11056312,
+    );
+    show_charged(
+        b"10A(f), PEPCO, 12523239 charged: ",
+        22811,
+        366,
+        1000,
+        12523239,
+    );
+    show_charged(
+        b"10A(f), PEPCO, 12523240 charged: ",
+        22811,
+        366,
+        1000,
+        12523240,
+    );
+    show_charged(
+        b"10A(f), SWMAAC, 11789775 charged: ",
+        21475,
+        366,
+        1000,
+        11789775,
+    );
+    show_charged(
+        b"10A(f), SWMAAC, 11789776 charged: ",
+        21475,
+        366,
+        1000,
+        11789776,
+    );
 }
 
 pub fn rows() {
-    let both = economic_sides();
-    let numerator = both.numerator;
-    let denominator = both.denominator;
-    show_portion(
-        b"summary, economic row's ratio in millionths: ",
-        1000000,
-        numerator,
-        denominator,
-    );
-    show_figures(
-        b"summary, economic row: ",
+    show(
+        b"summary, row scheduled below, economic: ",
+        header(30000, 365, 2, 3),
+        &SCHEDULED_BELOW,
+        &SCHEDULED_POINTS,
+        0,
         ECONOMIC,
-        &ECONOMIC_POINTS,
-        numerator,
-        denominator,
     );
-    show_figures(
-        b"summary, solar row: ",
-        SOLAR,
+    show(
+        b"summary, row scheduled below, shortfall: ",
+        header(30000, 365, 2, 3),
+        &SCHEDULED_BELOW,
+        &SCHEDULED_POINTS,
+        0,
+        SHORTFALL,
+    );
+    show(
+        b"summary, solar row, economic: ",
+        header(30000, 365, 2, 1),
+        &SOLAR,
         &SOLAR_POINT,
-        Kilowatts(1),
-        Kilowatts(1),
+        0,
+        ECONOMIC,
     );
-    show_charge(b"summary, solar row, charge: ", 5000, 0, 5000);
+    show(
+        b"summary, solar row, charge: ",
+        header(30000, 365, 2, 1),
+        &SOLAR,
+        &SOLAR_POINT,
+        0,
+        CHARGE,
+    );
+}
+
+// Prints the scheduled kW of a row on the curve of the listing's row 12, from 1000 to 6000 cents, as its bonus.
+fn show_on_12(label: &[u8], online: u64, lmp: u64)
+    requires { ⌜ length (now label) ≤ 64 ⌝ }
+{
+    let row = [
+        1,
+        4,
+        0,
+        0,
+        4000000,
+        0,
+        0,
+        0,
+        25000,
+        10000,
+        online,
+        lmp,
+        0,
+        2,
+    ];
+    show(label, header(30000, 365, 1, 2), &row, &CURVE_12, 0, BONUS);
 }
 
 pub fn curve_ends() {
-    show_scheduled(
-        b"summary, curve, online, LMP 999: ",
-        on_curve(1, 999),
-        &CURVE_12,
-    );
-    show_scheduled(
-        b"summary, curve, offline, LMP 999: ",
-        on_curve(0, 999),
-        &CURVE_12,
-    );
-    show_scheduled(
-        b"summary, curve, online, LMP 6001: ",
-        on_curve(1, 6001),
-        &CURVE_12,
-    );
+    show_on_12(b"summary, curve, online, LMP 999: ", 1, 999);
+    show_on_12(b"summary, curve, offline, LMP 999: ", 0, 999);
+    show_on_12(b"summary, curve, online, LMP 6001: ", 1, 6001);
+}
+
+// Prints what is answered to a row at an interval and an LMP of a year of 366 days.
+fn show_taken(label: &[u8], interval: u64, lmp: u64)
+    requires { ⌜ length (now label) ≤ 64 ⌝ }
+{
+    let row = [1, 0, 0, 0, 0, 0, 0, 0, 0, 0, 0, lmp, 0, 0];
+    let head = [1, interval, 27955, 366, 0, 0, 1, 40, 0, 208];
+    show_ground(label, charged(27955, 366, 0, 0), head, &row);
 }
 
 // The event of 2 October 2019, from 14:00 to 15:55, and LMPs of that day.
 pub fn ranges() {
-    show_header_outside(b"calendar, interval 35592, ground 9: ", header(35592));
-    show_header_outside(b"calendar, interval 35615, ground 9: ", header(35615));
-    show_row_outside(
-        b"review, Figure 14, LMP 364416, ground 13: ",
-        row_at(364416),
-    );
-    show_row_outside(
-        b"review, Figure 16, LMP -2906, ground 13: ",
-        row_at(0x1_0000_0000 - 2906),
-    );
+    show_taken(b"calendar, interval 35592: ", 35592, 0);
+    show_taken(b"calendar, interval 35615: ", 35615, 0);
+    show_taken(b"review, Figure 14, LMP 364416: ", 0, 364416);
+    show_taken(b"review, Figure 16, LMP -2906: ", 0, 0x1_0000_0000 - 2906);
 }

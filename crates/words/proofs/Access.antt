@@ -44,19 +44,6 @@ two-bytes b at =
     let none : numberAt 0 b (suc (suc at)) ≡ 0 = unfold numberAt number in refl in
     rw add-one (omega (arith, low, high, none))
 
--- a number of four bytes
-pub four-bytes : (b : List ℕ) (at : ℕ) → numberAt 4 b at ≡ getD b at 0 + 256 * getD b (at + 1) 0 + 65536 * getD b (at + 2) 0 + 16777216 * getD b (at + 3) 0
-four-bytes b at =
-    let low = two-bytes b at in
-    let high = two-bytes b (at + 2) in
-    let next : at + 2 + 1 ≡ at + 3 = omega arith in
-    omega (arith, split-number 2 2 b at, low, rw next at high)
-
--- past the end there is no byte but 0
-pub past-end : (n : ℕ) (b : List ℕ) (at : ℕ) → length b ≤ at → numberAt n b at ≡ 0
-unfolding numberAt
-past-end n b at h = ap (number n) (drop-of-length-le b h) ∙ number-nil n
-
 -- a number in a part of a buffer stands further on in the whole
 pub numberAt-drop : (n p : ℕ) (b : List ℕ) (at : ℕ) → numberAt n (drop p b) at ≡ numberAt n b (p + at)
 unfolding numberAt

@@ -1,15 +1,16 @@
 -- Signed numbers: what a local holds of one, and differences as natural numbers, each law by cases on the signs.
-use Prim.Native.Nat.{ℕ, zero, suc, _+_, _-_, _≤_, _<_}
+use Prim.Native.Nat.{ℕ, zero, suc, _+_, _-_, _%_, _≤_, _<_}
 use mathlib.Core.Bool.{Bool, true, false, cond}
 use mathlib.Core.Path.{_≡_, refl, sym, ap, subst, _∙_}
 use native.Mathlib.Omega.{arith}
-use borrow.Author.Tests.{leb-true, leb-false, le-leb, le-ltb, lt-ltb}
+use borrow.Author.Tests.{leb-true, leb-false, ltb-true, ltb-false, le-leb, le-ltb, lt-ltb}
 use lib.Dec.{T, ltb}
 use lib.IntN.{ℤ, pos, negsuc, subℕ, natAbs, _+ℤ_, _-ℤ_}
 use lib.Signed.{leZ, mag}
 use mir.Syntax.{w64}
 use mir.Val.{toZ, ofZ}
 use mir.ValLaws.{toZ-ofZ}
+use Rattle.words.specs.Words.{signed}
 
 -- a signed local holds bits, and what is read back from them is the number
 pub plain : (z : ℤ) → mag z < 9223372036854775808 → toZ w64 (ofZ w64 z) ≡ z
@@ -77,9 +78,45 @@ le-over (negsuc p) l (pos q) e f = refl
 le-over (negsuc p) (pos l) (negsuc q) e f = never (sym f)
 le-over (negsuc p) (negsuc l) (negsuc q) e f = le-leb q p (omega (arith, leb-true, leb-false))
 
--- a word of 32 bits in the upper half, less 2^32
-pub less-2^32 : (x : ℕ) → x < 4294967296 → pos x -ℤ pos 4294967296 ≡ negsuc (4294967296 - suc x)
-less-2^32 x h = rw (lt-ltb x 4294967296 h)
+-- a smaller number less a larger one
+less-larger : (x n : ℕ) → x < n → pos x -ℤ pos n ≡ negsuc (n - suc x)
+less-larger x zero h = absurd (omega arith)
+less-larger x (suc n) h = rw (lt-ltb x (suc n) h)
+
+-- a larger number less a smaller one
+less-smaller : (x n : ℕ) → n ≤ x → pos x -ℤ pos n ≡ pos (x - n)
+less-smaller x zero h = ap pos (omega arith)
+less-smaller x (suc n) h = rw (le-ltb x (suc n) h)
+
+-- moved up by half of all words, and round where they end, then down again, a word is the signed number that it holds
+pub turned-round : (w : ℕ) → w < 4294967296 → pos ((w + 2147483648) % 4294967296) -ℤ pos 2147483648 ≡ signed w
+unfolding signed
+turned-round w h = by (ltb w 2147483648) refl
+  where
+    by : (t : Bool) → ltb w 2147483648 ≡ t
+        → pos ((w + 2147483648) % 4294967296) -ℤ pos 2147483648 ≡ cond t (pos w) (pos w -ℤ pos 4294967296)
+    by true e =
+        let low = ltb-true w 2147483648 e in
+        let same : (w + 2147483648) % 4294967296 ≡ w + 2147483648 = omega arith in
+        let back : w + 2147483648 - 2147483648 ≡ w = omega arith in
+        ap (λ x. pos x -ℤ pos 2147483648) same ∙ less-smaller (w + 2147483648) 2147483648 (omega arith) ∙ ap pos back
+    by false e =
+        let high = ltb-false w 2147483648 e in
+        let round : (w + 2147483648) % 4294967296 ≡ w - 2147483648 = omega arith in
+        let far : 2147483648 - suc (w - 2147483648) ≡ 4294967296 - suc w = omega arith in
+        ap (λ x. pos x -ℤ pos 2147483648) round
+        ∙ less-larger (w - 2147483648) 2147483648 (omega arith)
+        ∙ ap negsuc far
+        ∙ sym (less-larger w 4294967296 h)
+
+-- a signed number of 32 bits has a size below 2^31
+pub signed-size : (w : ℕ) → w < 4294967296 → mag (signed w) < 2147483648
+unfolding signed
+signed-size w h = by (ltb w 2147483648) refl
+  where
+    by : (t : Bool) → ltb w 2147483648 ≡ t → mag (cond t (pos w) (pos w -ℤ pos 4294967296)) < 2147483648
+    by true e = omega (arith, ltb-true w 2147483648 e)
+    by false e = rw (less-larger w 4294967296 h) (omega (arith, ltb-false w 2147483648 e))
 
 -- of two natural numbers, one less the other has at most the size of their sum
 mag-cond : (t : Bool) (a b : ℕ) → mag (cond t (negsuc (b - suc a)) (pos (a - b))) ≤ a + b

@@ -2,7 +2,19 @@
 use Prim.Native.Nat.{ℕ, _+_, _*_, _^_, _<_, _≤_}
 use mathlib.Core.Path.{_≡_, refl, sym, ap, _∙_, subst}
 use mathlib.Core.Logic.{⊎-elim}
-use mathlib.Core.List.{List, [], _∷_, _++_, map, map-map, map-id, List·Memᴰ, List·Memᴰ·cases-cons, List·Memᴰ·not-nil, Memᴰ·of-map}
+use mathlib.Core.List.{
+  List,
+  [],
+  _∷_,
+  _++_,
+  map,
+  map-map,
+  map-id,
+  List·Memᴰ,
+  List·Memᴰ·cases-cons,
+  List·Memᴰ·not-nil,
+  Memᴰ·of-map,
+}
 use mathlib.Core.Bool.{Bool, true, false, cond}
 use native.Mathlib.Omega.{arith}
 use lib.ListN.{length, length-map, drop}
@@ -12,12 +24,12 @@ use Rattle.words.specs.Lists.{sum, risesAbove}
 use Rattle.words.specs.Words.{Bytes, word32}
 use Rattle.words.proofs.Lists.{sum-map, sum-most}
 use Rattle.words.proofs.Words.{numberAt-lt, drop-bytes, entries-all}
-use Rattle.reading.specs.Block.{idBytes, mostIds, blockOf, termsOutside, idsOutOfOrder}
+use Rattle.reading.specs.Block.{idBytes, mostIds, blockWords, blockOf, termsOutside, idsOutOfOrder}
 use Rattle.reading.specs.Interval.{intervalsPerDay, mostKilowatts}
 use Rattle.reading.proofs.Bounds.{terms-in, ids-rise}
-use Rattle.assessment.specs.Assessment.{limit, Account, accountOf, ChargedRow, Assessed}
+use Rattle.assessment.specs.Assessment.{mostCents, limit, Account, accountOf, ChargedRow, Assessed}
 use Rattle.assessment.proofs.Limits.{mostLimit, limit-le}
-use Rattle.ledger.specs.Ledger.{mostCents, mostCredited, Ledger, idsIn}
+use Rattle.ledger.specs.Ledger.{mostCredited, Ledger, idsIn}
 use Rattle.settling.specs.Settling.{postedAll}
 use Rattle.year.specs.Year.{GivenRow, sumOfPlant, largestOfPlant, accountByRows}
 use Rattle.ledger.proofs.Sound.{AccountIn, LedgerIn}
@@ -28,9 +40,10 @@ use Rattle.year.proofs.Totals.{parts-make-whole, largest-append, plant-
 
 -- every id of a block of bytes fits its word
 pub id-fits : (block : List ℕ) → Bytes block → (i : ℕ) → List·Memᴰ i (blockOf block .ids) → i < 2 ^ 64
-unfolding blockOf word32
+unfolding blockOf blockWords word32
 id-fits block bytes i m =
-    let below = entries-all idBytes (λ id. word32 id 0) (λ i. i < 2 ^ 32) (λ b bytes. numberAt-lt 4 b 0 bytes) (word32 block 3) (drop (word32 block 4) block)
+    let below = entries-all idBytes (λ id. word32 id 0) (λ i. i < 2 ^ 32) (λ b bytes. numberAt-lt 4 b 0 bytes)
+    (word32 block 3) (drop (word32 block 4) block)
     (drop-bytes (word32 block 4) block bytes) i m in
     omega (arith, below)
 
@@ -40,7 +53,8 @@ unfolding accountByRows
 ids-of-rows gs is = map-map (λ a. a .id) (accountByRows gs) is ∙ map-id is
 
 -- and the account of a listed id is found
-pub found : (gs : List GivenRow) (i : ℕ) (is : List ℕ) → List·Memᴰ i is → accountOf i (map (accountByRows gs) is) ≡ accountByRows gs i
+pub found : (gs : List GivenRow) (i : ℕ) (is : List ℕ) → List·Memᴰ i is
+    → accountOf i (map (accountByRows gs) is) ≡ accountByRows gs i
 unfolding accountOf accountByRows
 found gs i [] m = absurd (List·Memᴰ·not-nil m)
 found gs i (j ∷ is) m = by (eqb j i) refl (found gs i is)
@@ -51,7 +65,8 @@ found gs i (j ∷ is) m = by (eqb j i) refl (found gs i is)
     by false e below = ⊎-elim (λ q. absurd (eqb-false j i e (sym q))) below (List·Memᴰ·cases-cons m)
 
 -- posting rows to the account of earlier rows makes the account of all of them
-posted-rows : (v : Assessed) (cs : List ChargedRow) (gs : List GivenRow) (i : ℕ) → postedAll v cs (accountByRows gs i) ≡ accountByRows (gs ++ map (givenOf v) cs) i
+posted-rows : (v : Assessed) (cs : List ChargedRow) (gs : List GivenRow) (i : ℕ)
+    → postedAll v cs (accountByRows gs i) ≡ accountByRows (gs ++ map (givenOf v) cs) i
 unfolding accountByRows
 posted-rows v cs gs i =
     let p = posted-all v cs (accountByRows gs i) in
@@ -66,14 +81,16 @@ posted-rows v cs gs i =
 -- so posting rows to the accounts of earlier rows makes the accounts of all of them
 pub posted-accounts : (v : Assessed) (cs : List ChargedRow) (gs : List GivenRow) (is : List ℕ)
     → map (postedAll v cs) (map (accountByRows gs) is) ≡ map (accountByRows (gs ++ map (givenOf v) cs)) is
-posted-accounts v cs gs is = map-map (postedAll v cs) (accountByRows gs) is ∙ ap (λ (f : ℕ → Account). map f is) (λ k i. posted-rows v cs gs i k)
+posted-accounts v cs gs is =
+    map-map (postedAll v cs) (accountByRows gs) is ∙ ap (λ (f : ℕ → Account). map f is) (λ k i. posted-rows v cs gs i k)
 
 -- what rows given say of a ledger on a block
 pub record Books (block : List ℕ) (l : Ledger) (gs : List GivenRow) : Type 0 where
   pub terms : l .terms ≡ blockOf block .terms
   pub accounts : l .accounts ≡ map (accountByRows gs) (blockOf block .ids)
   pub closes : sum (λ g. g .charge) gs ≡ sum (λ g. g .credit) gs + l .carried
-  pub limited : (i : ℕ) → List·Memᴰ i (blockOf block .ids) → sumOfPlant i (λ g. g .charge) gs ≤ limit (blockOf block .terms) (largestOfPlant i gs)
+  pub limited : (i : ℕ) → List·Memᴰ i (blockOf block .ids)
+      → sumOfPlant i (λ g. g .charge) gs ≤ limit (blockOf block .terms) (largestOfPlant i gs)
   pub known : (g : GivenRow) → List·Memᴰ g gs → List·Memᴰ (g .id) (blockOf block .ids)
   pub committed : (g : GivenRow) → List·Memᴰ g gs → g .committed ≤ mostKilowatts
 
@@ -99,9 +116,11 @@ module _ (block : List ℕ) (good : GoodBlock block) (l : Ledger) (gs : List Giv
   same-ids = ap (map (λ a. a .id)) (k .accounts) ∙ ids-of-rows gs is
 
   -- a sum over the accounts is the sum over the rows
-  sum-accounts : (of : Account → ℕ) (f : GivenRow → ℕ) → ((i : ℕ) → of (accountByRows gs i) ≡ sumOfPlant i f gs) → sum of (l .accounts) ≡ sum f gs
+  sum-accounts : (of : Account → ℕ) (f : GivenRow → ℕ) → ((i : ℕ) → of (accountByRows gs i) ≡ sumOfPlant i f gs)
+      → sum of (l .accounts) ≡ sum f gs
   sum-accounts of f each =
-      ap (sum of) (k .accounts) ∙ sum-map of (accountByRows gs) is ∙ ap (λ (g : ℕ → ℕ). sum g is) (λ i j. each j i) ∙ parts-make-whole f is rise gs (k .known)
+      ap (sum of) (k .accounts) ∙ sum-map of (accountByRows gs) is ∙ ap (λ (g : ℕ → ℕ). sum g is) (λ i j. each j i)
+      ∙ parts-make-whole f is rise gs (k .known)
 
   -- the charged sums of all accounts make up the charges of all rows given
   all-charged : sum (λ a. a .charged) (l .accounts) ≡ sum (λ g. g .charge) gs

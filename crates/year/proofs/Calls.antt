@@ -11,7 +11,8 @@ use Rattle.settling.proofs.SettlingAnswers.{settledAnswer, settling-accepts, se
 use Rattle.year.specs.Year.{Call, Year, afterAnswer, afterCall, afterCalls}
 
 module _ (P : Year → Type 0)
-    (step : (y : Year) (c : Call) → P y → settling (y .ledger) (c .file) (c .result) .ground ≡ 0 → P (afterAnswer y c (settledAnswer (y .ledger) (c .file) (c .result)))) where
+    (step : (y : Year) (c : Call) → P y → settling (y .ledger) (c .file) (c .result) .ground ≡ 0
+    → P (afterAnswer y c (settledAnswer (y .ledger) (c .file) (c .result)))) where
   -- what each accepted call keeps still holds after one call, accepted or refused
   after-call : (y : Year) (c : Call) → P y → P (afterCall y c)
   unfolding afterCall afterAnswer
@@ -24,7 +25,8 @@ module _ (P : Year → Type 0)
       by true e =
           let a = settling-accepts (y .ledger) (c .file) (c .result) (eqb-true g 0 e) in
           subst (λ a. P (afterAnswer y c a)) (sym a) (step y c k (ap (λ a. a .ground) a))
-      by false e = subst (λ a. P (afterAnswer y c a)) (sym (settling-refuses (y .ledger) (c .file) (c .result) e)) (rw e k)
+      by false e =
+          subst (λ a. P (afterAnswer y c a)) (sym (settling-refuses (y .ledger) (c .file) (c .result) e)) (rw e k)
 
   -- so it holds after any list of calls, where it holds of the year before them
   pub after-calls : (y : Year) (calls : List Call) → P y → P (afterCalls y calls)

@@ -13,13 +13,37 @@ use Rattle.words.specs.Words.{Bytes, numberAt, word64, written, wordsIn}
 use Rattle.words.specs.Grounds.{answered, outside}
 use Rattle.words.proofs.Words.{numberAt-lt, drop-bytes, entries-all, words-back, length-written, beyond-written}
 use Rattle.words.proofs.Grounds.{answered-in}
+use Rattle.reading.specs.Interval.{rowGrounds}
 use Rattle.assessment.specs.Assessment.{Account, Assessed, credit}
 use Rattle.ledger.specs.Ledger.{ledgerHeaderBytes, accountBytes, accountAt, accountCount, ledgerOf, ledgerWords}
 use Rattle.ledger.specs.Opening.{openingGrounds, openedLedger, opening}
-use Rattle.settling.proofs.SettledLaws.{length-row-words, count-is}
-use Rattle.settling.specs.Settling.{assessedFile, resultWords, postedAll, settlingGrounds, settledLedger, settling}
+use Rattle.settling.proofs.SettledLaws.{rows-count}
+use Rattle.settling.specs.Settling.{
+  resultBytes,
+  assessedFile,
+  summaryWords,
+  resultWords,
+  postedAll,
+  laterGrounds,
+  groundsBeforePool,
+  settlingGrounds,
+  settledLedger,
+  settling,
+}
 use Rattle.year.specs.Year.{Call, newYear, afterCalls}
-use Rattle.year.specs.Claims.{SummedOverRows, SumsOfAYear, NeverLockedOut, Holds, OpeningReadsBack, ReadsBack, SettlingReadsBack, OpeningAnswers, OpeningRefusals, SettlingAnswers, SettlingRefusals}
+use Rattle.year.specs.Claims.{
+  SummedOverRows,
+  SumsOfAYear,
+  NeverRefusedOnSix,
+  Holds,
+  OpeningReadsBack,
+  ReadsBack,
+  SettlingReadsBack,
+  OpeningAnswers,
+  OpeningRefusals,
+  SettlingAnswers,
+  SettlingRefusals,
+}
 use Rattle.ledger.proofs.Sound.{opening-none, block-accepted, ledger-room}
 use Rattle.settling.proofs.Accepted.{settling-none, Accepted, accepted}
 use Rattle.year.proofs.LedgerBack.{Fits, ledger-words-fit, length-ledger}
@@ -27,6 +51,7 @@ use Rattle.year.proofs.Fits.{new-sums, ledger-fits, result-words-fit, i
 use Rattle.settling.proofs.SettlingAnswers.{settledAnswer, settling-accepts, settling-refuses}
 use Rattle.ledger.proofs.OpeningAnswers.{opening-accepts, opening-refuses}
 use Rattle.year.proofs.Calls.{after-calls}
+use Rattle.year.proofs.ResultWords.{length-rows-words}
 use Rattle.year.proofs.Step.{Kept, good-block, accept-kept, opened-fits, opened-room, opened-kept}
 
 -- a year on a block of bytes, after any calls
@@ -36,7 +61,8 @@ kept block ledger bytes e calls =
     let s = block-accepted block ledger (opening-none block ledger e) in
     let a = opening-accepts block ledger (opening-none block ledger e) in
     let start = subst (λ a. Kept block (newYear (a .ledger))) (sym a) (opened-kept block ledger s bytes) in
-    after-calls (Kept block) (λ y c k. accept-kept block bytes (good-block block ledger s) y k c) (newYear (opening block ledger .ledger)) calls start
+    after-calls (Kept block) (λ y c k. accept-kept block bytes (good-block block ledger s) y k c)
+    (newYear (opening block ledger .ledger)) calls start
 
 -- the sums hold after any list of calls on a freshly opened ledger
 pub sums-of-a-year : SumsOfAYear
@@ -44,9 +70,9 @@ unfolding SumsOfAYear
 sums-of-a-year block ledger bytes e calls = kept block ledger bytes e calls .sums
 
 -- ground 6 does not refuse the ledger that any list of calls leaves of a freshly opened one
-pub never-locked-out : NeverLockedOut
-unfolding NeverLockedOut
-never-locked-out block ledger bytes e calls = kept block ledger bytes e calls .holds
+pub never-refused-on-six : NeverRefusedOnSix
+unfolding NeverRefusedOnSix
+never-refused-on-six block ledger bytes e calls = kept block ledger bytes e calls .holds
 
 -- words that fit are held by a buffer that they are written to
 written-held : (ws b : List ℕ) → Fits ws → Holds ws b (written ws b)
@@ -58,18 +84,24 @@ pub opening-reads-back : OpeningReadsBack
 unfolding OpeningReadsBack
 opening-reads-back block ledger bytes e =
     let s = block-accepted block ledger (opening-none block ledger e) in
-    let held = written-held (ledgerWords (openedLedger block)) ledger (ledger-words-fit (openedLedger block) (opened-fits block ledger s bytes)) in
-    subst (λ a. Holds (ledgerWords (openedLedger block)) ledger (a .ledger)) (sym (opening-accepts block ledger (opening-none block ledger e))) held
+    let ledger-read = written-held (ledgerWords (openedLedger block)) ledger
+    (ledger-words-fit (openedLedger block) (opened-fits block ledger s bytes)) in
+    subst (λ a. Holds (ledgerWords (openedLedger block)) ledger (a .ledger))
+    (sym (opening-accepts block ledger (opening-none block ledger e))) ledger-read
 
 -- an account read from bytes has an id that fits its word
-account-id-fits : (ledger : List ℕ) → Bytes ledger → (a : Account) → List·Memᴰ a (ledgerOf ledger .accounts) → a .id < 2 ^ 64
-unfolding ledgerOf accountAt word64
+account-id-fits : (ledger : List ℕ) → Bytes ledger → (a : Account) → List·Memᴰ a (ledgerOf ledger .accounts)
+    → a .id < 2 ^ 64
+unfolding ledgerOf accountCount accountAt word64
 account-id-fits ledger bytes =
-    entries-all accountBytes accountAt (λ a. a .id < 2 ^ 64) (λ b bytes. numberAt-lt 8 b 0 bytes) (accountCount ledger) (drop ledgerHeaderBytes ledger)
+    entries-all accountBytes accountAt (λ a. a .id < 2 ^ 64) (λ b bytes. numberAt-lt 8 b 0 bytes) (accountCount ledger)
+    (drop ledgerHeaderBytes ledger)
     (drop-bytes ledgerHeaderBytes ledger bytes)
 
--- ledger and result of an accepted call on a ledger of bytes are read back, and charges, credits and bonus are the sums over the rows given
-settled-back : (ledger file result : List ℕ) → Bytes ledger → Accepted ledger file result → ReadsBack ledger file result (settledAnswer ledger file result)
+-- ledger and result of an accepted call on a ledger of bytes are read back, and charges, credits and bonus are the sums
+-- over the rows given
+settled-back : (ledger file result : List ℕ) → Bytes ledger → Accepted ledger file result
+    → ReadsBack ledger file result (settledAnswer ledger file result)
 settled-back ledger file result bytes s =
     let l = settledLedger ledger file in
     record {
@@ -83,12 +115,14 @@ pub settling-reads-back : SettlingReadsBack
 unfolding SettlingReadsBack
 settling-reads-back ledger file result bytes e =
     let none = settling-none ledger file result e in
-    subst (ReadsBack ledger file result) (sym (settling-accepts ledger file result none)) (settled-back ledger file result bytes (accepted ledger file result e))
+    subst (ReadsBack ledger file result) (sym (settling-accepts ledger file result none))
+    (settled-back ledger file result bytes (accepted ledger file result e))
 
 -- no ground that opening answers is above 5
 opening-ground : (block ledger : List ℕ) → answered (openingGrounds block ledger) ≤ 5
 unfolding openingGrounds any outside
-opening-ground block ledger = ⊎-elim (λ e. omega (arith, e)) (λ h. h .1) (answered-in 1 5 (openingGrounds block ledger) refl)
+opening-ground block ledger =
+    ⊎-elim (λ e. omega (arith, e)) (λ h. h .1) (answered-in 1 5 (openingGrounds block ledger) refl)
 
 -- opening answers at most 5, a refusal changes no byte of the ledger, and its length stays
 pub opening-refusals : OpeningRefusals
@@ -109,8 +143,9 @@ opening-refusals block ledger = by (eqb g 0) refl
         (record { ground = opening-ground block ledger; refused = λ h. refl; length-kept = refl })
 
 -- what the grounds of settling answer is 0, or 6 to 16
-settling-ground : (ledger file result : List ℕ) → let g = answered (settlingGrounds ledger file result) in (g ≡ 0) ⊎ ((6 ≤ g) × (g ≤ 16))
-unfolding settlingGrounds any outside
+settling-ground : (ledger file result : List ℕ)
+    → let g = answered (settlingGrounds ledger file result) in (g ≡ 0) ⊎ ((6 ≤ g) × (g ≤ 16))
+unfolding settlingGrounds groundsBeforePool laterGrounds rowGrounds any outside
 settling-ground ledger file result = answered-in 6 16 (settlingGrounds ledger file result) refl
 
 -- writing what an accepted call gives keeps both lengths
@@ -121,8 +156,10 @@ module _ (ledger file result : List ℕ) (s : Accepted ledger file result) where
 
   -- writing the result's words keeps the length of the result buffer
   result-length : length (written (resultWords w) result) ≡ length result
-  unfolding resultWords
-  result-length = length-written (resultWords w) result (omega (arith, length-row-words (credit w) (w .rows), count-is ledger file, s .room))
+  unfolding resultWords summaryWords resultBytes
+  result-length =
+      length-written (resultWords w) result
+      (omega (arith, length-rows-words (credit w) (w .rows), rows-count (s .passed), s .room))
 
   -- writing the words of the ledger after the file keeps the length of the ledger buffer
   ledger-length : length (written (ledgerWords (settledLedger ledger file)) ledger) ≡ length ledger

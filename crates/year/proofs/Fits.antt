@@ -12,19 +12,35 @@ use Rattle.words.proofs.Words.{word-back}
 use Rattle.words.proofs.Lists.{sum-le, sum-map, below-cons}
 use Rattle.reading.specs.Interval.{mostKilowatts, Row, headerOf, rowsOf}
 use Rattle.reading.proofs.Bounds.{terms-in}
-use Rattle.assessment.specs.Assessment.{ratioOf, printedRatio, Account, chargedRow, Assessed, assessed, charges, totalBonus, pool, credit, credits, carriedOn}
-use Rattle.assessment.proofs.Promises.{printed-le, denominator-le}
+use Rattle.assessment.specs.Assessment.{
+  mostCents,
+  ratioOf,
+  printedRatio,
+  Account,
+  ChargedRow,
+  chargedRow,
+  Assessed,
+  assessed,
+  charges,
+  totalBonus,
+  pool,
+  credit,
+  credits,
+  carriedOn,
+}
+use Rattle.assessment.proofs.Promises.{FiguresIn, figures-in, printed-le, numerator-le, denominator-le}
 use Rattle.assessment.proofs.Limits.{limit-le}
 use Rattle.assessment.proofs.Shares.{credits-le}
-use Rattle.ledger.specs.Ledger.{mostCents, ledgerOf}
-use Rattle.settling.specs.Settling.{resultWords, assessedFile, postedAll, settledLedger}
+use Rattle.ledger.specs.Ledger.{ledgerOf}
+use Rattle.settling.specs.Settling.{summaryWords, resultWords, assessedFile, postedAll, settledLedger}
 use Rattle.settling.proofs.Accepted.{Accepted}
-use Rattle.settling.proofs.SettledLaws.{row-words-below, chargedOf, rows-are, count-is, numerator-fits, bonus-fits, rows-within}
+use Rattle.settling.proofs.SettledLaws.{chargedOf, rows-are, rows-count, bonus-fits}
 use Rattle.year.specs.Year.{GivenRow, GivenInterval, givenBy, intervalBy, sumOfPlant, largestOfPlant}
 use Rattle.year.specs.Claims.{SummedOverRows}
 use Rattle.year.proofs.LedgerBack.{Fits, AccountFits, LedgerFits}
 use Rattle.year.proofs.Given.{givenOf, GivenFits, given-back}
 use Rattle.year.proofs.PostedSums.{posted-all}
+use Rattle.year.proofs.ResultWords.{RowWithin, row-within, rows-words-below}
 
 -- one plant's part of a sum
 pub part-le : (i : ℕ) (f : GivenRow → ℕ) (gs : List GivenRow) → sumOfPlant i f gs ≤ sum f gs
@@ -36,7 +52,8 @@ part-le i f gs = sum-le (λ g. cond (eqb (g .id) i) (f g) 0) f gs (λ g. by g (e
     by g false = omega arith
 
 -- a plant's largest commitment among rows of at most so many kW
-pub largest-le : (i most : ℕ) (gs : List GivenRow) → ((g : GivenRow) → List·Memᴰ g gs → g .committed ≤ most) → largestOfPlant i gs ≤ most
+pub largest-le : (i most : ℕ) (gs : List GivenRow) → ((g : GivenRow) → List·Memᴰ g gs → g .committed ≤ most)
+    → largestOfPlant i gs ≤ most
 unfolding largestOfPlant
 largest-le i most [] each = omega arith
 largest-le i most (g ∷ gs) each = by (eqb (g .id) i) (largest-le i most gs (λ s m. each s (List·Memᴰ·tail m)))
@@ -84,20 +101,32 @@ module _ (ledger file : List ℕ) where
   pool-is = refl
 
   -- a row given comes from a row of the file
-  pub from-row : (g : GivenRow) → List·Memᴰ g new → (r : Row) × List·Memᴰ r (rowsOf file) × (givenOf v (chargedOf ledger file r) ≡ g)
+  pub from-row : (g : GivenRow) → List·Memᴰ g new
+      → (r : Row) × List·Memᴰ r (rowsOf file) × (givenOf v (chargedOf ledger file r) ≡ g)
   from-row g m =
       let (c, at, e) = Memᴰ·of-map (givenOf v) (v .rows) m in
-      let (r, r-at, q) = Memᴰ·of-map (chargedOf ledger file) (rowsOf file) (subst (List·Memᴰ c) (rows-are ledger file) at) in
+      let (r, r-at, q) = Memᴰ·of-map (chargedOf ledger file) (rowsOf file)
+      (subst (List·Memᴰ c) (rows-are ledger file) at) in
       (r, r-at, subst (λ c. givenOf v c ≡ g) (sym q) e)
 
   -- where settling accepts the file
   module _ {result : List ℕ} (s : Accepted ledger file result) where
+    -- the figures, the charge and the credit of a charged row are within their bounds
+    rows-within : (c : ChargedRow) → List·Memᴰ c (v .rows) → RowWithin mostCents (credit v) c
+    unfolding chargedOf chargedRow
+    rows-within c m =
+        let (r, at, e) = Memᴰ·of-map (chargedOf ledger file) (rowsOf file)
+        (subst (List·Memᴰ c) (rows-are ledger file) m) in
+        let figures = figures-in (headerOf file .regionWide) (ratioOf (headerOf file) (rowsOf file)) r (s .rows r at) in
+        row-within v mostCents (s .pool) c m (subst (λ c. FiguresIn (c .figures)) e figures)
+
     -- what a row of the file is given fits 64 bits
     row-fits : (r : Row) → List·Memᴰ r (rowsOf file) → GivenFits (givenOf v (chargedOf ledger file r))
     unfolding givenOf
     row-fits r m =
-        let at = subst (List·Memᴰ (chargedOf ledger file r)) (sym (rows-are ledger file)) (Memᴰ·map (chargedOf ledger file) m) in
-        let c = rows-within ledger file (s .passed) (s .pool) (chargedOf ledger file r) at in
+        let at = subst (List·Memᴰ (chargedOf ledger file r)) (sym (rows-are ledger file))
+        (Memᴰ·map (chargedOf ledger file) m) in
+        let c = rows-within (chargedOf ledger file r) at in
         record {
           shortfall = omega (arith, c .figures .shortfall);
           bonus = omega (arith, c .figures .bonus);
@@ -107,13 +136,14 @@ module _ (ledger file : List ℕ) where
 
     -- commitments of the rows given
     pub new-committed : (g : GivenRow) → List·Memᴰ g new → g .committed ≤ mostKilowatts
-    unfolding givenOf chargedRow
+    unfolding givenOf chargedOf chargedRow
     new-committed g m =
         let (r, at, e) = from-row g m in
         subst (λ g. g .committed ≤ mostKilowatts) e (s .rows r at .committed)
 
     -- an account after the interval
-    account-fits : (a : Account) → List·Memᴰ a (ledgerOf ledger .accounts) → a .id < 2 ^ 64 → AccountFits (postedAll v (v .rows) a)
+    account-fits : (a : Account) → List·Memᴰ a (ledgerOf ledger .accounts) → a .id < 2 ^ 64
+        → AccountFits (postedAll v (v .rows) a)
     account-fits a m id-fits =
         let p = posted-all v (v .rows) a in
         let now = s .ledger-is .accounts a m in
@@ -127,7 +157,8 @@ module _ (ledger file : List ℕ) where
         }
 
     -- the ledger after the interval
-    pub ledger-fits : ((a : Account) → List·Memᴰ a (ledgerOf ledger .accounts) → a .id < 2 ^ 64) → LedgerFits (settledLedger ledger file)
+    pub ledger-fits : ((a : Account) → List·Memᴰ a (ledgerOf ledger .accounts) → a .id < 2 ^ 64)
+        → LedgerFits (settledLedger ledger file)
     unfolding settledLedger carriedOn
     ledger-fits ids-fit =
         let l = ledgerOf ledger in
@@ -145,35 +176,43 @@ module _ (ledger file : List ℕ) where
     -- both sides of the ratio fit 64 bits
     ratio-in : (v .ratio .numerator < 2 ^ 64) × (v .ratio .denominator < 2 ^ 64)
     unfolding assessedFile assessed ratioOf
-    ratio-in = (omega (arith, numerator-fits ledger file (s .passed)), omega (arith, denominator-le (rowsOf file) (s .rows-few) (s .rows)))
+    ratio-in = (
+      omega (arith, numerator-le (headerOf file) (rowsOf file) (s .header) (s .rows-few) (s .rows)),
+      omega (arith, denominator-le (rowsOf file) (s .rows-few) (s .rows)),
+    )
 
     -- the result of the interval
     pub result-words-fit : Fits (resultWords v)
-    unfolding resultWords
+    unfolding resultWords summaryWords
     result-words-fit =
         let q = ratio-in in
-        let each = row-words-below (2 ^ 64) mostCents (omega arith) (omega arith) (credit v) (v .rows) (rows-within ledger file (s .passed) (s .pool)) in
-        let n = below-cons (length (v .rows)) _ (omega (arith, count-is ledger file, s .passed .rows-few)) each in
+        let each = rows-words-below (2 ^ 64) mostCents (omega arith) (omega arith) (credit v) (v .rows) rows-within in
+        let n = below-cons (length (v .rows)) _
+        (omega (arith, rows-count (s .passed), s .passed .tabled .rows-few)) each in
         let ratio = below-cons (v .ratio .numerator) _ (q .0) (below-cons (v .ratio .denominator) _ (q .1) n) in
-        let bonus = below-cons (totalBonus v) _ (omega (arith, bonus-fits ledger file (s .passed))) ratio in
+        let bonus = below-cons (totalBonus v) _ (omega (arith, bonus-fits (s .passed))) ratio in
         let on = below-cons {n = 2 ^ 64} (carriedOn v) _ (unfold carriedOn in omega (arith, s .pool)) bonus in
-        let cents = below-cons (charges v) _ (omega (arith, pool-is, s .pool)) (below-cons (credits v) _ (omega (arith, credits-le v, s .pool)) on) in
+        let cents = below-cons (charges v) _ (omega (arith, pool-is, s .pool))
+        (below-cons (credits v) _ (omega (arith, credits-le v, s .pool)) on) in
         below-cons (printedRatio (v .ratio)) _ (omega (arith, printed-le (v .ratio))) cents
 
     -- a word of the interval is read back from the result that has been written
     result-word : (k : ℕ) → k < 8 → word64 (written (resultWords v) result) k ≡ getD (resultWords v) k 0
-    unfolding word64 numberAt written resultWords
-    result-word k h = word-back 8 (resultWords v) (drop (8 * length (resultWords v)) result) k result-words-fit (omega arith)
+    unfolding word64 numberAt written resultWords summaryWords
+    result-word k h =
+        word-back 8 (resultWords v) (drop (8 * length (resultWords v)) result) k result-words-fit (omega arith)
 
     -- the rows read back are those that the interval gives
     given-made : givenBy file (written (resultWords v) result) ≡ new
+    unfolding chargedOf
     given-made =
         let l = ledgerOf ledger in
-        given-back v (l .terms) (l .accounts) (ratioOf (headerOf file) (rowsOf file)) file result (rows-are ledger file) row-fits
+        given-back v (l .terms) (l .accounts) (headerOf file .regionWide)
+        (ratioOf (headerOf file) (rowsOf file)) file result (rows-are ledger file) row-fits
 
     -- and the whole interval is read back as it is given
     pub interval-made : intervalBy file (written (resultWords v) result) ≡ newInterval
-    unfolding intervalBy resultWords
+    unfolding intervalBy resultWords summaryWords
     interval-made = λ i. record {
       charges = result-word 1 (omega arith) i;
       credits = result-word 2 (omega arith) i;

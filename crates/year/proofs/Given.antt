@@ -8,7 +8,7 @@ use Rattle.words.proofs.Words.{first-word}
 use Rattle.reading.specs.Block.{Terms}
 use Rattle.reading.specs.Interval.{Row, rowsOf}
 use Rattle.assessment.specs.Assessment.{Ratio, Account, ChargedRow, chargedRow, Assessed, credit}
-use Rattle.settling.specs.Settling.{rowWords, resultWords}
+use Rattle.settling.specs.Settling.{rowsWords, summaryWords, resultWords}
 use Rattle.year.specs.Year.{GivenRow, givenFrom, givenBy}
 
 -- what a charged row of an interval is given
@@ -29,16 +29,18 @@ pub record GivenFits (g : GivenRow) : Type 0 where
   pub charge : g .charge < 2 ^ 64
   pub credit : g .credit < 2 ^ 64
 
-module _ (v : Assessed) (t : Terms) (accounts : List Account) (q : Ratio) where
+module _ (v : Assessed) (t : Terms) (accounts : List Account) (regionWide : ℕ) (q : Ratio) where
   -- the rows given are read back from the bytes of their row words, where they fit
-  rows-back : (rs : List Row) (rest : List ℕ) → ((r : Row) → List·Memᴰ r rs → GivenFits (givenOf v (chargedRow t accounts q r)))
-      → givenFrom rs (bytesOfWords 8 (rowWords (credit v) (map (chargedRow t accounts q) rs)) ++ rest) ≡ map (givenOf v) (map (chargedRow t accounts q) rs)
-  unfolding givenFrom givenOf rowWords bytesOfWords bytesOf word64 numberAt chargedRow
+  rows-back : (rs : List Row) (rest : List ℕ)
+      → ((r : Row) → List·Memᴰ r rs → GivenFits (givenOf v (chargedRow t accounts regionWide q r)))
+      → givenFrom rs (bytesOfWords 8 (rowsWords (credit v) (map (chargedRow t accounts regionWide q) rs)) ++ rest)
+      ≡ map (givenOf v) (map (chargedRow t accounts regionWide q) rs)
+  unfolding givenFrom givenOf rowsWords bytesOfWords bytesOf word64 numberAt chargedRow
   rows-back [] rest fit = refl
   rows-back (r ∷ rs) rest fit =
       let f = fit r (List·Memᴰ·head refl) in
-      let g = givenOf v (chargedRow t accounts q r) in
-      let ws = rowWords (credit v) (map (chargedRow t accounts q) rs) in
+      let g = givenOf v (chargedRow t accounts regionWide q r) in
+      let ws = rowsWords (credit v) (map (chargedRow t accounts regionWide q) rs) in
       λ i. record {
         id = r .id;
         committed = r .committed;
@@ -50,10 +52,11 @@ module _ (v : Assessed) (t : Terms) (accounts : List Account) (q : Ratio) where
       ∷ rows-back rs rest (λ s m. fit s (List·Memᴰ·tail m)) i
 
   -- the rows given are read back from a buffer that the whole result has been written to
-  pub given-back : (file result : List ℕ) → v .rows ≡ map (chargedRow t accounts q) (rowsOf file)
-      → ((r : Row) → List·Memᴰ r (rowsOf file) → GivenFits (givenOf v (chargedRow t accounts q r)))
+  pub given-back : (file result : List ℕ) → v .rows ≡ map (chargedRow t accounts regionWide q) (rowsOf file)
+      → ((r : Row) → List·Memᴰ r (rowsOf file) → GivenFits (givenOf v (chargedRow t accounts regionWide q r)))
       → givenBy file (written (resultWords v) result) ≡ map (givenOf v) (v .rows)
-  unfolding givenBy written resultWords bytesOfWords bytesOf
+  unfolding givenBy written resultWords summaryWords bytesOfWords bytesOf
   given-back file result e fit =
       let rest = drop (8 * length (resultWords v)) result in
-      ap (λ cs. givenFrom (rowsOf file) (bytesOfWords 8 (rowWords (credit v) cs) ++ rest)) e ∙ rows-back (rowsOf file) rest fit ∙ ap (map (givenOf v)) (sym e)
+      ap (λ cs. givenFrom (rowsOf file) (bytesOfWords 8 (rowsWords (credit v) cs) ++ rest)) e
+      ∙ rows-back (rowsOf file) rest fit ∙ ap (map (givenOf v)) (sym e)

@@ -1,4 +1,5 @@
--- A ledger that has been written is read back, where its words fit 64 bits, and ground 6 does not refuse it, where it is in order.
+-- A ledger that has been written is read back, where its words fit 64 bits, and ground 6 does not refuse it, where it
+-- is in order.
 use Prim.Native.Nat.{ℕ, _+_, _*_, _^_, _<_, _≤_}
 use mathlib.Core.Path.{_≡_, refl, ap, _∙_, sym, subst}
 use mathlib.Core.List.{List, [], _∷_, _++_, List·Memᴰ, List·Memᴰ·head, List·Memᴰ·tail}
@@ -13,9 +14,25 @@ use Rattle.words.proofs.Words.{first-word, entries-back, length-written}
 use Rattle.reading.specs.Block.{Terms}
 use Rattle.reading.specs.Interval.{mostKilowatts}
 use Rattle.assessment.specs.Assessment.{Account, limit}
-use Rattle.ledger.specs.Ledger.{accountBytes, mostCredited, Ledger, ledgerBytes, accountAt, accountCount, ledgerOf, accountWords, ledgerWords, notLaidOut, accountOutside, doesNotClose, notALedger}
+use Rattle.ledger.specs.Ledger.{
+  accountBytes,
+  mostCredited,
+  standingOf,
+  Ledger,
+  ledgerBytes,
+  accountAt,
+  accountCount,
+  ledgerOf,
+  accountWords,
+  standingWords,
+  ledgerWords,
+  notLaidOut,
+  accountOutside,
+  doesNotClose,
+  notALedger,
+}
 use Rattle.ledger.proofs.Sound.{AccountIn, LedgerIn}
-use Rattle.ledger.proofs.HeldTests.{sums-decide}
+use Rattle.ledger.proofs.GroundSixLaws.{sums-decide}
 
 -- words that fit 64 bits
 abbrev pub Fits : List ℕ → Type 0
@@ -43,17 +60,25 @@ unfolding accountWords
 account-words-fit [] fit = below-nil
 account-words-fit (a ∷ xs) fit =
     let f = fit a (List·Memᴰ·head refl) in
-    below-cons _ _ (f .id) (below-cons _ _ (f .largest) (below-cons _ _ (f .charged) (below-cons _ _ (f .credited) (account-words-fit xs (λ b m. fit b (List·Memᴰ·tail m))))))
+    below-cons _ _ (f .id)
+    (below-cons _ _ (f .largest)
+    (below-cons _ _ (f .charged)
+    (below-cons _ _ (f .credited) (account-words-fit xs (λ b m. fit b (List·Memᴰ·tail m))))))
 
 -- the words of a ledger that fits are words that fit
 pub ledger-words-fit : (l : Ledger) → LedgerFits l → Fits (ledgerWords l)
-unfolding ledgerWords
+unfolding ledgerWords standingWords
 ledger-words-fit l f =
-    let later = below-cons 8 _ (omega arith) (below-cons 0 _ (omega arith) (account-words-fit (l .accounts) (f .accounts))) in
-    below-cons 1 _ (omega arith) (below-cons _ _ (f .netCone) (below-cons _ _ (f .days) (below-cons _ _ (f .earliest) (below-cons _ _ (f .carried) (below-cons _ _ (f .count) later)))))
+    let later = below-cons 8 _ (omega arith)
+    (below-cons 0 _ (omega arith) (account-words-fit (l .accounts) (f .accounts))) in
+    below-cons 1 _ (omega arith)
+    (below-cons _ _ (f .netCone)
+    (below-cons _ _ (f .days)
+    (below-cons _ _ (f .earliest) (below-cons _ _ (f .carried) (below-cons _ _ (f .count) later)))))
 
 -- the accounts of a written ledger
-account-back : (rest : List ℕ) (a : Account) (xs : List Account) → AccountFits a → accountAt (bytesOfWords 8 (accountWords (a ∷ xs)) ++ rest) ≡ a
+account-back : (rest : List ℕ) (a : Account) (xs : List Account) → AccountFits a
+    → accountAt (bytesOfWords 8 (accountWords (a ∷ xs)) ++ rest) ≡ a
 unfolding accountAt word64 numberAt accountWords bytesOfWords bytesOf
 account-back rest a xs f =
     let ws = accountWords xs in
@@ -73,17 +98,20 @@ next-accounts rest a xs = refl
 -- accounts that fit are read back from the bytes of their words
 accounts-back : (rest : List ℕ) (xs : List Account) → ((a : Account) → List·Memᴰ a xs → AccountFits a)
     → entries accountBytes accountAt (length xs) (bytesOfWords 8 (accountWords xs) ++ rest) ≡ xs
-accounts-back rest = entries-back accountBytes accountAt (λ xs. bytesOfWords 8 (accountWords xs)) rest AccountFits (account-back rest) (next-accounts rest)
+accounts-back rest =
+    entries-back accountBytes accountAt (λ xs. bytesOfWords 8 (accountWords xs)) rest AccountFits (account-back rest)
+    (next-accounts rest)
 
 -- a ledger that fits is read back from a buffer that its words have been written to
 pub ledger-back : (l : Ledger) (b : List ℕ) → LedgerFits l → ledgerOf (written (ledgerWords l) b) ≡ l
-unfolding ledgerOf accountCount written ledgerWords bytesOfWords bytesOf word64 numberAt
+unfolding ledgerOf standingOf accountCount written ledgerWords standingWords bytesOfWords bytesOf word64 numberAt
 ledger-back l b f =
     let ws = accountWords (l .accounts) in
     let rest = drop (8 * length (ledgerWords l)) b in
     let n = length (l .accounts) in
     let t = l .terms in
-    let counted : number 8 (bytesOfWords 8 (n ∷ 8 ∷ 0 ∷ ws) ++ rest) ≡ n = first-word 8 n (8 ∷ 0 ∷ ws) rest (f .count) in
+    let counted : number 8 (bytesOfWords 8 (n ∷ 8 ∷ 0 ∷ ws) ++ rest) ≡ n = first-word 8 n (8 ∷ 0 ∷ ws) rest
+    (f .count) in
     λ i. record {
       terms = record {
         netCone = first-word 8 (t .netCone) (t .days ∷ l .earliest ∷ l .carried ∷ n ∷ 8 ∷ 0 ∷ ws) rest (f .netCone) i;
@@ -101,8 +129,9 @@ length-accountWords [] = refl
 length-accountWords (a ∷ xs) = omega (arith, length-accountWords xs)
 
 -- writing a ledger where there is room for it keeps the buffer's length
-pub length-ledger : (l : Ledger) (b : List ℕ) → ledgerBytes (length (l .accounts)) ≤ length b → length (written (ledgerWords l) b) ≡ length b
-unfolding ledgerWords ledgerBytes
+pub length-ledger : (l : Ledger) (b : List ℕ) → ledgerBytes (length (l .accounts)) ≤ length b
+    → length (written (ledgerWords l) b) ≡ length b
+unfolding ledgerWords standingWords ledgerBytes
 length-ledger l b h = length-written (ledgerWords l) b (omega (arith, length-accountWords (l .accounts)))
 
 -- the words of a written ledger that its values do not show
@@ -114,7 +143,7 @@ record Laid (l : Ledger) (b : List ℕ) : Type 0 where
 
 -- a written ledger has those words, where its number of accounts fits 64 bits
 laid : (l : Ledger) (b : List ℕ) → length (l .accounts) < 2 ^ 64 → Laid l (written (ledgerWords l) b)
-unfolding accountCount word64 numberAt written ledgerWords bytesOfWords bytesOf
+unfolding accountCount standingOf word64 numberAt written ledgerWords standingWords bytesOfWords bytesOf
 laid l b h =
     let ws = accountWords (l .accounts) in
     let rest = drop (8 * length (ledgerWords l)) b in
@@ -131,28 +160,37 @@ laid l b h =
 account-good : (t : Terms) (a : Account) → AccountIn t a → accountOutside t a ≡ false
 unfolding accountOutside
 account-good t a s =
-    rw (le-ltb mostKilowatts (a .largest) (s .largest), le-ltb (limit t (a .largest)) (a .charged) (s .charged)) (le-ltb mostCredited (a .credited) (s .credited))
+    rw (le-ltb mostKilowatts (a .largest) (s .largest), le-ltb (limit t (a .largest)) (a .charged) (s .charged))
+    (le-ltb mostCredited (a .credited) (s .credited))
 
 -- a buffer whose words 0, 6 and 7 are as laid out passes the test of the layout
 laid-out : (l : Ledger) (b : List ℕ) → Laid l b → notLaidOut b ≡ false
 unfolding notLaidOut
-laid-out l b p = rw (eq-eqb (word64 b 0) 1 (p .format), eq-eqb (word64 b 6) 8 (p .offset), eq-eqb (word64 b 7) 0 (p .last))
+laid-out l b p =
+    rw (eq-eqb (word64 b 0) 1 (p .format), eq-eqb (word64 b 6) 8 (p .offset), eq-eqb (word64 b 7) 0 (p .last))
 
 -- a ledger in order passes the test that its sums close
 closing : (l : Ledger) → LedgerIn l → doesNotClose l ≡ false
 unfolding doesNotClose
-closing l s = rw (eq-eqb (sum (λ a. a .charged) (l .accounts)) (sum (λ a. a .credited) (l .accounts) + l .carried) (s .closes))
+closing l s =
+    rw (eq-eqb (sum (λ a. a .charged) (l .accounts)) (sum (λ a. a .credited) (l .accounts) + l .carried) (s .closes))
 
 -- a buffer that holds a ledger in order, where there is room for it, passes ground 6
-holds : (l : Ledger) (b : List ℕ) → ledgerOf b ≡ l → Laid l b → ledgerBytes (length (l .accounts)) ≤ length b → LedgerIn l → notALedger b ≡ false
+holds : (l : Ledger) (b : List ℕ) → ledgerOf b ≡ l → Laid l b → ledgerBytes (length (l .accounts)) ≤ length b
+    → LedgerIn l → notALedger b ≡ false
 unfolding ledgerBytes
 holds l b back p room s =
     let counted = p .count in
     let r : LedgerIn (ledgerOf b) = subst LedgerIn (sym back) s in
-    let accounts = none-pass (accountOutside (ledgerOf b .terms)) (ledgerOf b .accounts) (λ a m. account-good (ledgerOf b .terms) a (r .accounts a m)) in
-    sums-decide b (omega (arith, room)) (laid-out l b p) (r .terms) (omega (arith, counted, s .some)) (omega (arith, counted, s .few)) (r .ids) (omega (arith, counted, room)) (r .earliest) (r .carried) accounts
+    let accounts = none-pass (accountOutside (ledgerOf b .terms)) (ledgerOf b .accounts)
+    (λ a m. account-good (ledgerOf b .terms) a (r .accounts a m)) in
+    sums-decide b (omega (arith, room)) (laid-out l b p) (r .terms) (omega (arith, counted, s .some))
+    (omega (arith, counted, s .few)) (r .ids) (omega (arith, counted, room)) (r .earliest) (r .carried) accounts
     ∙ closing (ledgerOf b) r
 
 -- so ground 6 does not refuse a written ledger that fits, has room and is in order
-pub written-holds : (l : Ledger) (b : List ℕ) → LedgerFits l → ledgerBytes (length (l .accounts)) ≤ length b → LedgerIn l → notALedger (written (ledgerWords l) b) ≡ false
-written-holds l b fit room s = holds l (written (ledgerWords l) b) (ledger-back l b fit) (laid l b (fit .count)) (rw (length-ledger l b room) room) s
+pub written-holds : (l : Ledger) (b : List ℕ) → LedgerFits l → ledgerBytes (length (l .accounts)) ≤ length b
+    → LedgerIn l → notALedger (written (ledgerWords l) b) ≡ false
+written-holds l b fit room s =
+    holds l (written (ledgerWords l) b) (ledger-back l b fit) (laid l b (fit .count))
+    (rw (length-ledger l b room) room) s

@@ -1,6 +1,7 @@
 pub mod LedgerBack
 pub mod Given
 pub mod PostedSums
+pub mod ResultWords
 pub mod Fits
 pub mod Totals
 pub mod Limits

@@ -11,19 +11,19 @@ use Rattle.words.specs.Lists.{sum, risesAbove, rises}
 use Rattle.words.proofs.Lists.{rises-next, rises-rest}
 use Rattle.reading.specs.Block.{Terms}
 use Rattle.reading.specs.Interval.{Row}
-use Rattle.assessment.specs.Assessment.{Ratio, rowFigures, Account, accountOf, raised, limit, charge, chargedRow, Assessed}
-use Rattle.assessment.proofs.Promises.{if-le}
+use Rattle.assessment.specs.Assessment.{Ratio, rowFigures, Account, accountOf, limit, chargedRow, Assessed}
 use Rattle.assessment.proofs.Limits.{limit-rises, charge-le}
 use Rattle.year.specs.Year.{GivenRow, sumOfPlant, largestOfPlant}
 use Rattle.year.proofs.Given.{givenOf}
 
-module _ (v : Assessed) (t : Terms) (accounts : List Account) (q : Ratio) where
+module _ (v : Assessed) (t : Terms) (accounts : List Account) (regionWide : ℕ) (q : Ratio) where
   -- what the rows are given
   abbrev given : List Row → List GivenRow
-  given rs = map (givenOf v) (map (chargedRow t accounts q) rs)
+  given rs = map (givenOf v) (map (chargedRow t accounts regionWide q) rs)
 
   -- rows that come after an id are charged nothing for it
-  none-later : (i last : ℕ) (rs : List Row) → risesAbove last (map (λ r. r .id) rs) ≡ true → i ≤ last → sumOfPlant i (λ g. g .charge) (given rs) ≡ 0
+  none-later : (i last : ℕ) (rs : List Row) → risesAbove last (map (λ r. r .id) rs) ≡ true → i ≤ last
+      → sumOfPlant i (λ g. g .charge) (given rs) ≡ 0
   unfolding sumOfPlant sum givenOf chargedRow
   none-later i last [] e h = refl
   none-later i last (r ∷ rs) e h =
@@ -33,17 +33,15 @@ module _ (v : Assessed) (t : Terms) (accounts : List Account) (q : Ratio) where
 
   -- a row's charge is at most what is left under its account's limit
   row-charge-le : (r : Row) → let a = accountOf (r .id) accounts in
-      chargedRow t accounts q r .charge ≤ limit t (max (a .largest) (r .committed)) - a .charged
+      chargedRow t accounts regionWide q r .charge ≤ limit t (max (a .largest) (r .committed)) - a .charged
   unfolding chargedRow
-  row-charge-le r =
-      let a = accountOf (r .id) accounts in
-      let short = rowFigures q r .shortfall in
-      omega (arith, if-le r (charge t (raised r a) short), charge-le t r a short)
+  row-charge-le r = charge-le t (r .committed) (accountOf (r .id) accounts) (rowFigures regionWide q r .shortfall)
 
   -- a plant within the limit of its largest commitment stays so after rows whose ids rise
   pub within-limit : (i : ℕ) (rs : List Row) → rises (map (λ r. r .id) rs) ≡ true
       → let a = accountOf i accounts in
-      a .charged ≤ limit t (a .largest) → a .charged + sumOfPlant i (λ g. g .charge) (given rs) ≤ limit t (max (a .largest) (largestOfPlant i (given rs)))
+      a .charged ≤ limit t (a .largest) → a .charged + sumOfPlant i (λ g. g .charge) (given rs)
+      ≤ limit t (max (a .largest) (largestOfPlant i (given rs)))
   unfolding rises sumOfPlant sum largestOfPlant givenOf chargedRow
   within-limit i [] e h = omega (arith, limit-rises t (le-max-left (accountOf i accounts .largest) 0))
   within-limit i (r ∷ rs) e h = by (eqb (r .id) i) refl (within-limit i rs (rises-rest (r .id) (map (λ r. r .id) rs) e))
@@ -55,7 +53,7 @@ module _ (v : Assessed) (t : Terms) (accounts : List Account) (q : Ratio) where
       most kw = limit t (max (a .largest) kw)
 
       fee : ℕ
-      fee = chargedRow t accounts q r .charge
+      fee = chargedRow t accounts regionWide q r .charge
 
       kw : ℕ
       kw = largestOfPlant i (given rs)
@@ -66,10 +64,19 @@ module _ (v : Assessed) (t : Terms) (accounts : List Account) (q : Ratio) where
       cut : r .id ≡ i → fee ≤ most (r .committed) - a .charged
       cut q = rw (← q) (row-charge-le r)
 
-      by : (b : Bool) → eqb (r .id) i ≡ b → (a .charged ≤ limit t (a .largest) → a .charged + sumOfPlant i (λ g. g .charge) (given rs) ≤ most kw)
-          → a .charged + (cond b fee 0 + sumOfPlant i (λ g. g .charge) (given rs)) ≤ most (max (cond b (r .committed) 0) kw)
+      by : (b : Bool) → eqb (r .id) i ≡ b
+          → (a .charged ≤ limit t (a .largest) → a .charged + sumOfPlant i (λ g. g .charge) (given rs) ≤ most kw)
+          → a .charged + (cond b fee 0 + sumOfPlant i (λ g. g .charge) (given rs))
+          ≤ most (max (cond b (r .committed) 0) kw)
       by true p below =
           let same = eqb-true (r .id) i p in
           let rest = none-later i (r .id) rs e (omega arith) in
-          omega (arith, rest, cut same, h, limit-rises t (le-max-left (a .largest) (r .committed)), rises-to (r .committed) (max (r .committed) kw) (omega arith))
+          omega (
+            arith,
+            rest,
+            cut same,
+            h,
+            limit-rises t (le-max-left (a .largest) (r .committed)),
+            rises-to (r .committed) (max (r .committed) kw) (omega arith),
+          )
       by false p below = omega (arith, below h, rises-to kw (max 0 kw) (omega arith))

@@ -6,7 +6,7 @@ use mathlib.Core.Bool.{Bool, true, false, cond}
 use native.Mathlib.Omega.{arith}
 use lib.Dec.{eqb}
 use Rattle.words.specs.Lists.{sum}
-use Rattle.assessment.specs.Assessment.{Account, raised, ChargedRow, Assessed, credit}
+use Rattle.assessment.specs.Assessment.{Account, raised, added, ChargedRow, Assessed, credit}
 use Rattle.settling.specs.Settling.{posted, postedAll}
 use Rattle.year.specs.Year.{GivenRow, sumOfPlant, largestOfPlant}
 use Rattle.year.proofs.Given.{givenOf}
@@ -21,8 +21,9 @@ pub record Added (a : Account) (kw charge credit : ℕ) (b : Account) : Type 0 w
 -- an account after rows of an interval has the sums over its own rows added
 pub posted-all : (v : Assessed) (cs : List ChargedRow) (a : Account)
     → let gs = map (givenOf v) cs in
-    Added a (largestOfPlant (a .id) gs) (sumOfPlant (a .id) (λ g. g .charge) gs) (sumOfPlant (a .id) (λ g. g .credit) gs) (postedAll v cs a)
-unfolding postedAll posted raised givenOf sumOfPlant sum largestOfPlant
+    Added a (largestOfPlant (a .id) gs) (sumOfPlant (a .id) (λ g. g .charge) gs)
+    (sumOfPlant (a .id) (λ g. g .credit) gs) (postedAll v cs a)
+unfolding postedAll posted raised added givenOf sumOfPlant sum largestOfPlant
 posted-all v [] a = record { id = refl; largest = omega arith; charged = omega arith; credited = omega arith }
 posted-all v (c ∷ cs) a = by (eqb (c .row .id) (a .id)) (posted-all v cs)
   where
@@ -33,8 +34,10 @@ posted-all v (c ∷ cs) a = by (eqb (c .row .id) (a .id)) (posted-all v cs)
     more = record { id = a .id; largest = max (a .largest) (c .row .committed); charged = a .charged + c .charge; credited = a .credited + credit v c }
 
     by : (t : Bool)
-        → ((b : Account) → Added b (largestOfPlant (b .id) gs) (sumOfPlant (b .id) (λ g. g .charge) gs) (sumOfPlant (b .id) (λ g. g .credit) gs) (postedAll v cs b))
-        → Added a (max (cond t (c .row .committed) 0) (largestOfPlant (a .id) gs)) (cond t (c .charge) 0 + sumOfPlant (a .id) (λ g. g .charge) gs)
+        → ((b : Account) → Added b (largestOfPlant (b .id) gs) (sumOfPlant (b .id) (λ g. g .charge) gs)
+        (sumOfPlant (b .id) (λ g. g .credit) gs) (postedAll v cs b))
+        → Added a (max (cond t (c .row .committed) 0) (largestOfPlant (a .id) gs))
+        (cond t (c .charge) 0 + sumOfPlant (a .id) (λ g. g .charge) gs)
         (cond t (credit v c) 0 + sumOfPlant (a .id) (λ g. g .credit) gs) (postedAll v cs (cond t more a))
     by true below =
         let h = below more in

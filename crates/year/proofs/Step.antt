@@ -2,7 +2,18 @@
 use Prim.Native.Nat.{ℕ, _+_, _^_, _<_, _≤_, max}
 use mathlib.Core.Path.{_≡_, refl, sym, ap, _∙_, subst}
 use mathlib.Core.Logic.{_⊎_, ⊎-elim}
-use mathlib.Core.List.{List, [], _∷_, _++_, map, List·Memᴰ, List·Memᴰ·not-nil, List·Memᴰ·append-cases, List·Memᴰ·eq-of-singleton, Memᴰ·of-map}
+use mathlib.Core.List.{
+  List,
+  [],
+  _∷_,
+  _++_,
+  map,
+  List·Memᴰ,
+  List·Memᴰ·not-nil,
+  List·Memᴰ·append-cases,
+  List·Memᴰ·eq-of-singleton,
+  Memᴰ·of-map,
+}
 use mathlib.Core.Bool.{false, cond}
 use native.Mathlib.Omega.{arith}
 use lib.ListN.{length, length-map}
@@ -10,22 +21,56 @@ use lib.Dec.{ltb}
 use Rattle.words.specs.Lists.{sum}
 use Rattle.words.specs.Words.{Bytes, word64, written}
 use Rattle.words.proofs.Lists.{sum-append, sum-map, found-member}
-use Rattle.reading.specs.Block.{blockOf}
+use Rattle.reading.specs.Block.{blockWords, blockOf}
 use Rattle.reading.specs.Interval.{Row, headerOf, rowsOf}
 use Rattle.reading.proofs.Bounds.{terms-in, length-ids, ids-rise}
-use Rattle.assessment.specs.Assessment.{Ratio, ratioOf, limit, emptyAccount, accountOf, chargedRow, Assessed, assessed, carriedOn}
+use Rattle.assessment.specs.Assessment.{
+  Ratio,
+  ratioOf,
+  limit,
+  emptyAccount,
+  accountOf,
+  chargedRow,
+  Assessed,
+  assessed,
+  carriedOn,
+}
 use Rattle.assessment.proofs.Promises.{exclusive}
 use Rattle.assessment.proofs.Shares.{credits-le, carried-lt}
-use Rattle.ledger.specs.Ledger.{Ledger, ledgerBytes, ledgerOf, ledgerWords, idsIn, notALedger}
+use Rattle.ledger.specs.Ledger.{standingOf, Ledger, ledgerBytes, ledgerOf, ledgerWords, idsIn, notALedger}
 use Rattle.ledger.specs.Opening.{openedLedger}
 use Rattle.settling.specs.Settling.{assessedFile, postedAll, settledLedger, settling}
-use Rattle.year.specs.Year.{Call, GivenRow, GivenInterval, Year, newYear, afterAnswer, sumOfPlant, largestOfPlant, accountByRows, rowsWithBonus}
+use Rattle.year.specs.Year.{
+  Call,
+  GivenRow,
+  GivenInterval,
+  Year,
+  newYear,
+  afterAnswer,
+  sumOfPlant,
+  largestOfPlant,
+  accountByRows,
+  rowsWithBonus,
+}
 use Rattle.year.specs.Claims.{SummedOverRows, SumsHold}
 use Rattle.ledger.proofs.Sound.{BlockAccepted, ledger-room}
 use Rattle.settling.proofs.Accepted.{Accepted, accepted}
+use Rattle.settling.proofs.SettledLaws.{chargedOf}
 use Rattle.year.proofs.LedgerBack.{AccountFits, LedgerFits, ledger-back, written-holds}
 use Rattle.year.proofs.Given.{givenOf}
-use Rattle.year.proofs.Fits.{new, new-charges, new-credits, new-bonus, newInterval, new-sums, pool-is, from-row, new-committed, ledger-fits, interval-made}
+use Rattle.year.proofs.Fits.{
+  new,
+  new-charges,
+  new-credits,
+  new-bonus,
+  newInterval,
+  new-sums,
+  pool-is,
+  from-row,
+  new-committed,
+  ledger-fits,
+  interval-made,
+}
 use Rattle.year.proofs.Totals.{largest-append, plant-append}
 use Rattle.year.proofs.Limits.{within-limit}
 use Rattle.settling.proofs.SettlingAnswers.{settledAnswer}
@@ -46,7 +91,7 @@ good-block block ledger s =
 
 -- word 4 of a ledger is the cents that it carries
 carried-word : (b : List ℕ) → word64 b 4 ≡ ledgerOf b .carried
-unfolding ledgerOf
+unfolding ledgerOf standingOf
 carried-word b = refl
 
 -- an accepted call on a year that keeps the sums
@@ -84,13 +129,16 @@ module _ (block : List ℕ) (bytes : Bytes block) (good : GoodBlock block) (y : 
   after-fits : LedgerFits after
   unfolding accountByRows
   after-fits = ledger-fits (y .ledger) (c .file) s
-      (λ a m. let (i, at, p) = Memᴰ·of-map (accountByRows (y .given)) (blockOf block .ids) (subst (List·Memᴰ a) (k .books .accounts) m) in
+      (λ a m. let (i, at, p) = Memᴰ·of-map (accountByRows (y .given)) (blockOf block .ids)
+      (subst (List·Memᴰ a) (k .books .accounts) m) in
       subst (λ a. a .id < 2 ^ 64) p (id-fits block bytes i at))
 
   -- the sums with the rows given added
   new-accounts : after .accounts ≡ map (accountByRows (y .given ++ gs)) (blockOf block .ids)
   unfolding settledLedger
-  new-accounts = ap (map (postedAll v (v .rows))) (k .books .accounts) ∙ posted-accounts v (v .rows) (y .given) (blockOf block .ids)
+  new-accounts =
+      ap (map (postedAll v (v .rows))) (k .books .accounts)
+      ∙ posted-accounts v (v .rows) (y .given) (blockOf block .ids)
 
   -- all charges given are all credits given plus the cents carried after the call
   new-closes : sum (λ g. g .charge) (y .given ++ gs) ≡ sum (λ g. g .credit) (y .given ++ gs) + after .carried
@@ -107,34 +155,38 @@ module _ (block : List ℕ) (bytes : Bytes block) (good : GoodBlock block) (y : 
       ≤ limit (l .terms) (max (largestOfPlant i (y .given)) (largestOfPlant i gs))
   unfolding assessedFile assessed accountByRows
   under-limit i m =
-      let own : accountOf i (l .accounts) ≡ accountByRows (y .given) i = ap (accountOf i) (k .books .accounts) ∙ found (y .given) i (blockOf block .ids) m in
+      let own : accountOf i (l .accounts) ≡ accountByRows (y .given) i = ap (accountOf i) (k .books .accounts)
+      ∙ found (y .given) i (blockOf block .ids) m in
       let step = subst (λ a. a .charged ≤ limit (l .terms) (a .largest)
       → a .charged + sumOfPlant i (λ g. g .charge) gs ≤ limit (l .terms) (max (a .largest) (largestOfPlant i gs))) own
-      (within-limit v (l .terms) (l .accounts) q i rs (s .ids-rise)) in
+      (within-limit v (l .terms) (l .accounts) (headerOf (c .file) .regionWide) q i rs (s .ids-rise)) in
       step (rw (k .books .terms) (k .books .limited i m))
 
   -- with the new rows added, no listed plant's charges exceed the limit of its largest commitment
   new-limited : (i : ℕ) → List·Memᴰ i (blockOf block .ids)
-      → sumOfPlant i (λ g. g .charge) (y .given ++ gs) ≤ limit (blockOf block .terms) (largestOfPlant i (y .given ++ gs))
+      → sumOfPlant i (λ g. g .charge) (y .given ++ gs)
+      ≤ limit (blockOf block .terms) (largestOfPlant i (y .given ++ gs))
   new-limited i m =
       rw (plant-append i (λ g. g .charge) (y .given) gs, largest-append i (y .given) gs)
-      (subst (λ t. sumOfPlant i (λ g. g .charge) (y .given) + sumOfPlant i (λ g. g .charge) gs ≤ limit t (max (largestOfPlant i (y .given)) (largestOfPlant i gs)))
+      (subst (λ t. sumOfPlant i (λ g. g .charge) (y .given) + sumOfPlant i (λ g. g .charge) gs
+      ≤ limit t (max (largestOfPlant i (y .given)) (largestOfPlant i gs)))
       (k .books .terms) (under-limit i m))
 
   -- every new row has an id of the block
   new-known : (g : GivenRow) → List·Memᴰ g gs → List·Memᴰ (g .id) (blockOf block .ids)
-  unfolding givenOf chargedRow
+  unfolding givenOf chargedOf chargedRow
   new-known g m =
       let (r, at, p) = from-row (y .ledger) (c .file) g m in
       let id-in = found-member (r .id) (idsIn l) (s .ids-known r at) in
-      subst (λ g. List·Memᴰ (g .id) (blockOf block .ids)) p (subst (List·Memᴰ (r .id)) (same-ids block good l (y .given) (k .books)) id-in)
+      subst (λ g. List·Memᴰ (g .id) (blockOf block .ids)) p
+      (subst (List·Memᴰ (r .id)) (same-ids block good l (y .given) (k .books)) id-in)
 
   -- no new row has a shortfall and a bonus
   new-exclusive : (g : GivenRow) → List·Memᴰ g gs → (g .shortfall ≡ 0) ⊎ (g .bonus ≡ 0)
-  unfolding givenOf chargedRow
+  unfolding givenOf chargedOf chargedRow
   new-exclusive g m =
       let (r, at, p) = from-row (y .ledger) (c .file) g m in
-      subst (λ g. (g .shortfall ≡ 0) ⊎ (g .bonus ≡ 0)) p (exclusive q r)
+      subst (λ g. (g .shortfall ≡ 0) ⊎ (g .bonus ≡ 0)) p (exclusive (headerOf (c .file) .regionWide) q r)
 
   -- the ledger after the call has the books of the earlier and the new rows
   new-books : Books block after (y .given ++ gs)
@@ -150,10 +202,10 @@ module _ (block : List ℕ) (bytes : Bytes block) (good : GoodBlock block) (y : 
 
   -- where the new rows have bonus, the cents carried are fewer than the rows with bonus
   new-rest : 0 < sum (λ g. g .bonus) gs → carriedOn v < rowsWithBonus gs
-  unfolding rowsWithBonus givenOf assessedFile
+  unfolding rowsWithBonus givenOf
   new-rest p =
       let some = rw (new-bonus (y .ledger) (c .file)) at p in
-      rw (sum-map (λ g. cond (ltb 0 (g .bonus)) 1 0) (givenOf v) (v .rows)) (carried-lt (l .terms) (l .accounts) (l .carried) (headerOf (c .file)) rs some)
+      rw (sum-map (λ g. cond (ltb 0 (g .bonus)) 1 0) (givenOf v) (v .rows)) (carried-lt v some)
 
   -- the interval given has the sums over its own rows
   new-summed : (i : GivenInterval) → List·Memᴰ i (newInterval (y .ledger) (c .file) ∷ []) → SummedOverRows i
@@ -167,7 +219,8 @@ module _ (block : List ℕ) (bytes : Bytes block) (good : GoodBlock block) (y : 
       let n = length-map (l .accounts) (postedAll v (v .rows)) in
       let early = s .header .interval in
       written-holds after (y .ledger) after-fits (rw n room)
-      (in-order block good after (y .given ++ gs) new-books (omega (arith, early, s .days)) (unfold carriedOn in omega (arith, s .pool)))
+      (in-order block good after (y .given ++ gs) new-books (omega (arith, early, s .days))
+      (unfold carriedOn in omega (arith, s .pool)))
 
   -- so an accepted call keeps the sums, the books, and a ledger that ground 6 does not refuse
   pub accept-kept : Kept block (afterAnswer y c (settledAnswer (y .ledger) (c .file) (c .result)))
@@ -218,7 +271,7 @@ module _ (block ledger : List ℕ) (s : BlockAccepted block ledger) where
   }
 
   -- it has as many accounts as the block has ids
-  opened-length : length (opened .accounts) ≡ blockOf block .idCount
+  opened-length : length (opened .accounts) ≡ blockWords block .idCount
   unfolding openedLedger
   opened-length = length-map (blockOf block .ids) emptyAccount ∙ length-ids block
 

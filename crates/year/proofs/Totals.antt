@@ -12,10 +12,13 @@ use Rattle.year.specs.Year.{GivenRow, sumOfPlant, largestOfPlant}
 
 -- ids above a number do not hit it
 none-hit : (i x last : ℕ) (is : List ℕ) → risesAbove last is ≡ true → i ≤ last → sum (λ j. cond (eqb i j) x 0) is ≡ 0
-none-hit i x last is e h = sum-same (λ j. cond (eqb i j) x 0) (λ j. 0) is (λ j m. rw (ne-eqb i j (λ q. omega (arith, member-above last m e)))) ∙ sum-zero is
+none-hit i x last is e h =
+    sum-same (λ j. cond (eqb i j) x 0) (λ j. 0) is (λ j m. rw (ne-eqb i j (λ q. omega (arith, member-above last m e))))
+    ∙ sum-zero is
 
 -- of ids that rise, one hits a member
-one-hit : (x last : ℕ) {i : ℕ} {is : List ℕ} → List·Memᴰ i is → risesAbove last is ≡ true → sum (λ j. cond (eqb i j) x 0) is ≡ x
+one-hit : (x last : ℕ) {i : ℕ} {is : List ℕ} → List·Memᴰ i is → risesAbove last is ≡ true
+    → sum (λ j. cond (eqb i j) x 0) is ≡ x
 unfolding sum
 one-hit x last {i} (List·Memᴰ·head {x = j} {xs = is} q) e =
     rw (eq-eqb i j q) (omega (arith, none-hit i x j is (rises-next last j is e .1) (omega (arith, q))))
@@ -25,21 +28,25 @@ one-hit x last {i} (List·Memᴰ·tail {x = j} {xs = is} m) e =
     rw other (omega (arith, one-hit x j m (up .1)))
 
 -- the plants' parts make up the whole
-pub parts-make-whole : (f : GivenRow → ℕ) (is : List ℕ) → risesAbove 0 is ≡ true → (gs : List GivenRow) → ((g : GivenRow) → List·Memᴰ g gs → List·Memᴰ (g .id) is)
+pub parts-make-whole : (f : GivenRow → ℕ) (is : List ℕ) → risesAbove 0 is ≡ true → (gs : List GivenRow)
+    → ((g : GivenRow) → List·Memᴰ g gs → List·Memᴰ (g .id) is)
     → sum (λ i. sumOfPlant i f gs) is ≡ sum f gs
 unfolding sumOfPlant sum
 parts-make-whole f is rise [] known = sum-zero is
 parts-make-whole f is rise (g ∷ gs) known =
     sum-plus (λ i. cond (eqb (g .id) i) (f g) 0) (λ i. sumOfPlant i f gs) is
-    ∙ ap₂ _+_ (one-hit (f g) 0 (known g (List·Memᴰ·head refl)) rise) (parts-make-whole f is rise gs (λ s m. known s (List·Memᴰ·tail m)))
+    ∙ ap₂ _+_ (one-hit (f g) 0 (known g (List·Memᴰ·head refl)) rise)
+    (parts-make-whole f is rise gs (λ s m. known s (List·Memᴰ·tail m)))
 
 -- a plant's largest commitment in two lists of rows is the larger of that in each
-pub largest-append : (i : ℕ) (xs ys : List GivenRow) → largestOfPlant i (xs ++ ys) ≡ max (largestOfPlant i xs) (largestOfPlant i ys)
+pub largest-append : (i : ℕ) (xs ys : List GivenRow)
+    → largestOfPlant i (xs ++ ys) ≡ max (largestOfPlant i xs) (largestOfPlant i ys)
 unfolding largestOfPlant
 largest-append i [] ys = omega arith
 largest-append i (g ∷ xs) ys = omega (arith, largest-append i xs ys)
 
 -- a plant's sum over two lists of rows is the sum over the one plus the sum over the other
-pub plant-append : (i : ℕ) (f : GivenRow → ℕ) (xs ys : List GivenRow) → sumOfPlant i f (xs ++ ys) ≡ sumOfPlant i f xs + sumOfPlant i f ys
+pub plant-append : (i : ℕ) (f : GivenRow → ℕ) (xs ys : List GivenRow)
+    → sumOfPlant i f (xs ++ ys) ≡ sumOfPlant i f xs + sumOfPlant i f ys
 unfolding sumOfPlant
 plant-append i f xs ys = sum-append (λ g. cond (eqb (g .id) i) (f g) 0) xs ys

@@ -12,7 +12,19 @@ use Rattle.assessment.specs.Assessment.{limit}
 use Rattle.ledger.specs.Ledger.{ledgerOf, ledgerWords, notALedger}
 use Rattle.ledger.specs.Opening.{openedLedger, OpeningAnswer, opening}
 use Rattle.settling.specs.Settling.{resultWords, assessedFile, settledLedger, SettlingAnswer, settling}
-use Rattle.year.specs.Year.{Call, GivenRow, GivenInterval, intervalBy, Year, newYear, afterCalls, sumOfPlant, largestOfPlant, accountByRows, rowsWithBonus}
+use Rattle.year.specs.Year.{
+  Call,
+  GivenRow,
+  GivenInterval,
+  intervalBy,
+  Year,
+  newYear,
+  afterCalls,
+  sumOfPlant,
+  largestOfPlant,
+  accountByRows,
+  rowsWithBonus,
+}
 
 -- x is a member of xs
 abbrev pub Member : {A : Type 0} → A → List A → Type 0
@@ -39,7 +51,8 @@ pub record SumsHold (block : List ℕ) (y : Year) : Type 0 where
   -- no plant's charges exceed the limit of its largest commitment so far
   pub limited : (i : ℕ) → Member i (blockOf block .ids)
       → sumOfPlant i (λ g. g .charge) (y .given) ≤ limit (blockOf block .terms) (largestOfPlant i (y .given))
-  -- the accounts are those of the block in its order, each with its largest commitment and the sums of its own charges and credits
+  -- the accounts are those of the block in its order, each with its largest commitment and the sums of its own charges
+  -- and credits
   pub accounts : ledgerOf (y .ledger) .accounts ≡ map (accountByRows (y .given)) (blockOf block .ids)
   -- every row given has an id of the block
   pub known : (g : GivenRow) → Member g (y .given) → Member (g .id) (blockOf block .ids)
@@ -50,13 +63,14 @@ SumsOfAYear =
     (block ledger : List ℕ) → Bytes block → opening block ledger .ground ≡ 0
     → (calls : List Call) → SumsHold block (afterCalls (newYear (opening block ledger .ledger)) calls)
 
--- Never locked out: after any such list the ledger is not refused on ground 6
-unfoldable pub NeverLockedOut : Type 0
-NeverLockedOut =
+-- Never refused on ground 6: so it is of the ledger after any such list
+unfoldable pub NeverRefusedOnSix : Type 0
+NeverRefusedOnSix =
     (block ledger : List ℕ) → Bytes block → opening block ledger .ground ≡ 0
     → (calls : List Call) → notALedger (afterCalls (newYear (opening block ledger .ledger)) calls .ledger) ≡ false
 
--- a buffer after words were written to it: each word read back is the number meant, and the bytes beyond are as they were
+-- a buffer after words were written to it: each word read back is the number meant, and the bytes beyond are as they
+-- were
 pub record Holds (words before after : List ℕ) : Type 0 where
   pub read-back : wordsIn (length words) after ≡ words
   pub beyond : drop (8 * length words) after ≡ drop (8 * length words) before

@@ -2,21 +2,20 @@
 use Prim.Native.Nat.{_-_, _≤_}
 use mathlib.Core.Path.{_≡_}
 use lib.ListN.{length}
-use native.Mathlib.Omega.{arith}
 use borrow.Author.Needs.{needs}
 use Rattle.npalist.proofs.run.Statement.{statement}
 use Rattle.npalist.proofs.run.Tie as tie
 
 abbrev Inv-loop : tie.InvT-loop
-Inv-loop stream₀ ledger₀ result₀ out₀ end number₀ stream ledger result out number =
+Inv-loop ledger₀ head₀ block₀ out₀ end number₀ ledger head block out number =
     (number ≤ 1099511627776)
-    × (length stream ≡ length stream₀)
     × (length ledger ≡ length ledger₀)
-    × (length result ≡ length result₀)
+    × (length head ≡ length head₀)
+    × (length block ≡ length block₀)
     × (length out ≡ length out₀)
 
 abbrev μ-loop : tie.MeasureT-loop
-μ-loop stream₀ ledger₀ result₀ out₀ end number₀ stream ledger result out number = 1099511627776 - number
+μ-loop ledger₀ head₀ block₀ out₀ end number₀ ledger head block out number = 1099511627776 - number
 
 put-heading-requires : tie.Need-put-heading-requires Inv-loop μ-loop
 put-heading-requires c κs = search needs
@@ -37,12 +36,7 @@ next-step-requires : tie.Need-next-step-requires Inv-loop μ-loop
 next-step-requires c κs = search needs
 
 print-requires-2 : tie.Need-print-requires-2 Inv-loop μ-loop
-print-requires-2 c κs =
-    let step = c .before .before .before .before .before .before .before .before .before in
-    let turn = step .before .before .before .before .before .before .loop in
-    let room : step .next-step .result .end ≤ length (step .next-step .last .1 .1 .1 .1 .0) =
-    omega (arith, step .next-step .ensures .1 .1 .1 .1 .1 .0, step .next-step .kept .1 .1 .1 .1 .0, turn .inv .4, c .before .before .before .before .before .before .before .before .before .before .before .before .before .before .before .before .before .before .before .before .before .before .before .before .before .before .before .pre .1 .1 .1) in
-    room
+print-requires-2 c κs = search needs
 
 same-length-2 : tie.Need-same-length-2 Inv-loop μ-loop
 same-length-2 c = search needs

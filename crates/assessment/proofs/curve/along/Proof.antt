@@ -1,4 +1,5 @@
--- `assessment::curve::along` meets its contract. The product of two numbers of 32 bits fits, and a share of the rise is at most the rise.
+-- `assessment::curve::along` meets its contract.
+-- The product of two numbers of 32 bits fits, and a share of the rise is at most the rise.
 use native.Mathlib.Omega.{arith}
 use borrow.Author.Needs.{needs}
 use Rattle.assessment.proofs.CurveNumbers.{share-le, product-le}
@@ -15,7 +16,7 @@ plus-requires : tie.Need-plus-requires
 plus-requires c κs = let start = c .before in omega (arith, share-le (start .args .rise .0) (start .pre .1 .0))
 
 returns : tie.Need-returns
-returns c = let start = c .before .before in (c .plus .ensures, omega (arith, c .plus .ensures, share-le (start .args .rise .0) (start .pre .1 .0)))
+returns c = search needs
 
 pub along-spec : {M : Type 1} → statement M
 along-spec = tie.close (tie.spec mul-t5 div-t6 plus-requires returns)

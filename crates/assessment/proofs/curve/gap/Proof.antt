@@ -14,7 +14,8 @@ small : (c : tie.Start) → SFits w64 (pos (gapOf (c .args .a) (c .args .b)))
 small c = record { sfits = omega (arith, gap-le (c .args .a) (c .args .b)) }
 
 -- what the machine computes is the difference
-is : (c : tie.Start) → toZ w64 (ofZ w64 (c .args .a)) -ℤ toZ w64 (ofZ w64 (c .args .b)) ≡ pos (gapOf (c .args .a) (c .args .b))
+is : (c : tie.Start) → let a = c .args .a in let b = c .args .b in
+    toZ w64 (ofZ w64 a) -ℤ toZ w64 (ofZ w64 b) ≡ pos (gapOf a b)
 is c =
     rw (toZ-ofZ w64 (c .args .a) (c .fits .a), toZ-ofZ w64 (c .args .b) (c .fits .b))
     (diff (c .args .a) (c .args .b) (c .pre .0))

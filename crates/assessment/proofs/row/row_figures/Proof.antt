@@ -1,87 +1,93 @@
--- `assessment::row::row_figures` meets its contract. A row that is not considered has zeros; each other figure is what its rule gives of the row.
-use mathlib.Core.Bool.{true, false}
-use mathlib.Core.Path.{_≡_, sym, ap, _∙_}
+-- `assessment::row::row_figures` meets its contract. Each way's figures are those of the definition for its kinds.
+use mathlib.Core.Path.{_≡_, sym, _∙_}
 use borrow.Author.Needs.{needs}
-use borrow.Author.Tests.{not-true, not-false}
-use Rattle.reading.specs.Interval.{rowAt}
-use Rattle.assessment.specs.Assessment.{Ratio, actual, considered, economic, shortfall, bonus, rowFigures}
-use Rattle.assessment.proofs.RowLaws.{expected-points, outage-points, left-out, counted}
+use Rattle.reading.specs.Interval.{Row, rowWith, rowOf, curveOf}
+use Rattle.reading.specs.Values.{rowIn}
+use Rattle.assessment.specs.Assessment.{Ratio, actual, expected}
+use Rattle.assessment.specs.Values.{ratioIn}
+use Rattle.assessment.proofs.ChargeLaws.{not-considered-figures}
+use Rattle.assessment.proofs.RuleLaws.{figures-producing, figures-unexcused}
 use Rattle.assessment.proofs.row.row_figures.Statement.{statement}
 use Rattle.assessment.proofs.row.row_figures.Tie as tie
 
-considered-requires : tie.Need-considered-requires
-considered-requires c κs = search needs
+-- the row
+abbrev row : tie.Start → Row
+row c = rowOf (c .args .file .now) (rowIn (c .args .row))
 
-returns : tie.Need-returns
-unfolding rowFigures
-returns c =
-    let start = c .before .before .before .before in
-    let r = rowAt (start .args .row .now) (start .args .points .now) in
-    let none : considered r ≡ false = sym (c .before .considered .ensures) ∙ not-true (c .before .considered .result) (c .if1 .taken) in
-    (left-out r _ none, left-out r _ none, left-out r _ none, left-out r _ none, left-out r _ none, left-out r _ none)
+-- the ratio
+abbrev ratio : tie.Start → Ratio
+ratio c = ratioIn (c .args .ratio)
 
-expected-requires : tie.Need-expected-requires
-expected-requires c κs = search needs
+-- the row's actual
+actual-is : (c : tie.After-actual) → c .actual .result .0 ≡ actual (row (c .before .before))
+unfolding rowOf
+actual-is c = let a = c .before .before .args in c .actual .ensures .0 (curveOf (a .file .now) (rowIn (a .row)))
+
+-- what is expected of it
+expected-is : (c : tie.After-expected) → let s = c .before .before .before in
+    c .expected .result .0 ≡ expected (ratio s) (row s)
+unfolding rowOf
+expected-is c =
+    let a = c .before .before .before .args in
+    c .expected .ensures (curveOf (a .file .now) (rowIn (a .row)))
 
 actual-requires : tie.Need-actual-requires
 actual-requires c κs = search needs
 
-outage-requires : tie.Need-outage-requires
-outage-requires c κs = search needs
+expected-requires : tie.Need-expected-requires
+expected-requires c κs = search needs
 
-scheduled-requires : tie.Need-scheduled-requires
-scheduled-requires c κs = search needs
+produced-requires : tie.Need-produced-requires
+produced-requires c κs =
+    let d = c .before .before in
+    let s = d .before .before in
+    (s .pre .0, (s .pre .1 .0, actual-is d))
 
-economic-requires : tie.Need-economic-requires
-unfolding rowAt actual
-economic-requires c κs =
-    let start = c .before .before .before .before .before .before .before .before in
-    (start .pre .0, (c .before .before .actual .ensures .0, c .scheduled .ensures .0))
+considered-requires : tie.Need-considered-requires
+considered-requires c κs = search needs
 
-shortfall-requires : tie.Need-shortfall-requires
-unfolding rowAt actual
-shortfall-requires c κs =
-    let out = c .before .before .outage in
-    (c .before .before .before .actual .ensures .0, (out .ensures .0 ∙ outage-points _ _ _, c .economic .ensures))
+unexcused-requires : tie.Need-unexcused-requires
+unexcused-requires c κs = search needs
 
-bonus-requires : tie.Need-bonus-requires
-unfolding rowAt actual
-bonus-requires c κs =
-    let start = c .before .before .before .before .before .before .before .before .before .before in
-    (start .pre .0, (c .before .before .before .before .actual .ensures .0, c .before .before .scheduled .ensures .0))
+returns : tie.Need-returns
+unfolding rowOf rowWith rowIn
+returns c =
+    let asked = c .before .before in
+    let m = asked .before in
+    let e = m .before in
+    let s = e .before .before .before in
+    let in-event = sym (asked .considered .ensures) ∙ c .before .if1 .taken in
+    figures-unexcused (s .args .h .«region_wide») (row s) (ratio s) (actual-is (e .before)) (expected-is e)
+    (m .match .rest .1) in-event (c .unexcused .ensures)
+
+nothing-requires : tie.Need-nothing-requires
+nothing-requires c κs = search needs
 
 returns-2 : tie.Need-returns-2
-unfolding rowFigures
+unfolding rowOf rowWith rowIn
 returns-2 c =
-    let short = c .before in
-    let econ = short .before in
-    let out = econ .before .before in
-    let act = out .before in
-    let expect = act .before in
-    let start = expect .before .before .before .before .before in
-    let q : Ratio = record { numerator = start .args .numerator .0; denominator = start .args .denominator .0 } in
-    let r = rowAt (start .args .row .now) (start .args .points .now) in
-    let on : considered r ≡ true = sym (expect .before .before .considered .ensures) ∙ not-false (expect .before .before .considered .result) (expect .before .if1 .left) in
-    let e = expect .expected .ensures ∙ expected-points q _ _ _ in (
-      counted r on e,
-      counted r on (unfold rowAt actual in act .actual .ensures .0),
-      counted r on (out .outage .ensures .0 ∙ outage-points _ _ _),
-      counted r on (econ .economic .ensures ∙ ap (economic r) e),
-      counted r on (short .shortfall .ensures ∙ ap (shortfall r) e),
-      counted r on (c .bonus .ensures ∙ ap (bonus r) e),
-    )
+    let e = c .before .before in
+    let s = e .before .before .before in
+    figures-producing (s .args .h .«region_wide») (row s) (ratio s) (actual-is (e .before)) (expected-is e)
+    (c .before .match .keys1) (c .produced .ensures)
+
+returns-3 : tie.Need-returns-3
+returns-3 c =
+    let asked = c .before .before in
+    let s = asked .before .before .before .before .before in
+    let left-out = sym (asked .considered .ensures) ∙ c .before .if1 .left in
+    c .nothing .ensures ∙ sym (not-considered-figures (s .args .h .«region_wide») (ratio s) (row s) left-out)
 
 pub row-figures-spec : {M : Type 1} → statement M
 row-figures-spec =
     tie.close
     (tie.spec
-    considered-requires
-    returns
-    expected-requires
     actual-requires
-    outage-requires
-    scheduled-requires
-    economic-requires
-    shortfall-requires
-    bonus-requires
-    returns-2)
+    expected-requires
+    produced-requires
+    considered-requires
+    unexcused-requires
+    returns
+    nothing-requires
+    returns-2
+    returns-3)

@@ -1,23 +1,15 @@
--- `ledger::opening::write_opened` meets its contract. Header and accounts are the ledger.
+-- `ledger::opening::write_opened` meets its contract. What stands before the accounts, and the accounts, are the ledger.
 use native.Mathlib.Omega.{arith}
-use borrow.Author.Needs.{needs}
 use Rattle.ledger.specs.Ledger.{ledgerBytes}
-use Rattle.ledger.proofs.OpeningWrites.{opened-written}
+use Rattle.ledger.specs.Values.{standingIn}
+use Rattle.ledger.proofs.OpeningLaws.{opened-written}
+use borrow.Author.Needs.{needs}
 use Rattle.ledger.proofs.opening.write_opened.Statement.{statement}
 use Rattle.ledger.proofs.opening.write_opened.Tie as tie
 
-net-cone-requires : tie.Need-net-cone-requires
-net-cone-requires c κs = search needs
-
-days-requires : tie.Need-days-requires
-days-requires c κs = search needs
-
-id-count-requires : tie.Need-id-count-requires
-id-count-requires c κs = search needs
-
-write-header-requires : tie.Need-write-header-requires
+write-standing-requires : tie.Need-write-standing-requires
 unfolding ledgerBytes
-write-header-requires c κs = omega arith
+write-standing-requires c κs = omega arith
 
 write-accounts-requires : tie.Need-write-accounts-requires
 write-accounts-requires c κs = search needs
@@ -26,23 +18,14 @@ same-length : tie.Need-same-length
 same-length c = search needs
 
 returns : tie.Need-returns
-unfolding ledgerBytes
+unfolding ledgerBytes standingIn
 returns c =
     let accounts = c .before .before in
-    let header = accounts .before .before .before .before in
-    let count = header .before in
-    let days = count .before in
-    let cone = days .before in
-    opened-written _ _ _ _ _ _ _ (cone .net-cone .ensures) (days .days .ensures) (count .id-count .ensures .0) (omega arith) (header .write-header .ensures) (accounts .write-accounts .ensures)
+    let standing = accounts .before .before .before .before in
+    let start = accounts .before .before .before .before .before .before .before .before .before in
+    opened-written _ _ _ _ _ (start .pre .0) (omega arith) (standing .write-standing .ensures)
+    (accounts .write-accounts .ensures)
 
 pub write-opened-spec : {M : Type 1} → statement M
 write-opened-spec =
-    tie.close
-    (tie.spec
-    net-cone-requires
-    days-requires
-    id-count-requires
-    write-header-requires
-    write-accounts-requires
-    same-length
-    returns)
+    tie.close (tie.spec write-standing-requires write-accounts-requires same-length returns)

@@ -1,9 +1,7 @@
 -- `listing::blocks::list_block` meets its contract. The number decides between an opening and an interval.
-use mathlib.Core.Path.{refl}
-use Rattle.listing.specs.Npalist.{intervalListed, blockListed}
-use Rattle.listing.specs.Room.{blockResult}
-use Rattle.listing.proofs.StreamLaws.{at-first, at-later, come-to}
-use native.Mathlib.Omega.{arith}
+use Rattle.listing.specs.Npalist.{blockListed}
+use Rattle.stream.proofs.StepLaws.{step-as}
+use Rattle.listing.proofs.EndLaws.{at-first, at-later}
 use borrow.Author.Needs.{needs}
 use Rattle.listing.proofs.blocks.list_block.Statement.{statement}
 use Rattle.listing.proofs.blocks.list_block.Tie as tie
@@ -18,11 +16,10 @@ same-length-2 : tie.Need-same-length-2
 same-length-2 c = search needs
 
 returns : tie.Need-returns
-unfolding blockListed blockResult
+unfolding blockListed
 returns c =
     let o = c .before .before .before .before in
-    let then = o .before .before .before in
-    come-to _ _ _ _ _ _ _ _ _ _ (at-first _ _ _ (then .if1 .taken), at-first _ _ _ (then .if1 .taken)) refl (o .list-opening .ensures .0) (o .list-opening .ensures .1 .0) (o .list-opening .ensures .1 .1 .0) (o .list-opening .ensures .1 .1 .1 .0) (omega arith)
+    step-as _ _ _ _ _ _ (at-first _ _ _ (o .before .before .before .if1 .taken)) (o .list-opening .ensures)
 
 list-interval-requires : tie.Need-list-interval-requires
 list-interval-requires c κs = search needs
@@ -33,17 +30,11 @@ same-length-3 c = search needs
 same-length-4 : tie.Need-same-length-4
 same-length-4 c = search needs
 
-same-length-5 : tie.Need-same-length-5
-same-length-5 c = search needs
-
 returns-2 : tie.Need-returns-2
-unfolding blockListed blockResult intervalListed
+unfolding blockListed
 returns-2 c =
-    let i = c .before .before .before .before .before .before in
-    let else = i .before .before .before .before in
-    let start = else .before .before .before .before .before in
-    come-to _ (intervalListed (start .args .number) (start .args .ledger .now) (start .args .block .now)) _ _ _ _ _ _ _ _ (at-later _ _ _ (else .if1 .left), at-later _ _ _ (else .if1 .left))
-    (i .list-interval .ensures .0) (i .list-interval .ensures .1 .0) (i .list-interval .ensures .1 .1 .0) (i .list-interval .ensures .1 .1 .1 .0) refl (omega arith)
+    let i = c .before .before .before .before in
+    step-as _ _ _ _ _ _ (at-later _ _ _ (i .before .before .before .if1 .left)) (i .list-interval .ensures)
 
 pub list-block-spec : {M : Type 1} → statement M
 list-block-spec =
@@ -56,5 +47,4 @@ list-block-spec =
     list-interval-requires
     same-length-3
     same-length-4
-    same-length-5
     returns-2)

@@ -1,12 +1,9 @@
--- `listing::blocks::list_opening` meets its contract. The ledger is all zeros before the call, and what opening answers says whether the listing goes on.
-use mathlib.Core.Path.{_∙_}
-use Rattle.listing.proofs.BlockLaws.{ledger-cleared, opening-refused, opening-opened}
+-- `listing::blocks::list_opening` meets its contract. What opening answers says whether the listing goes on.
+use Rattle.listing.proofs.BlockLaws.{opening-refused, opening-opened}
+use native.Mathlib.Omega.{arith}
 use borrow.Author.Needs.{needs}
 use Rattle.listing.proofs.blocks.list_opening.Statement.{statement}
 use Rattle.listing.proofs.blocks.list_opening.Tie as tie
-
-clear-requires : tie.Need-clear-requires
-clear-requires c κs = search needs
 
 open-requires : tie.Need-open-requires
 open-requires c κs = search needs
@@ -28,10 +25,8 @@ returns c =
     let put = c .before .before in
     let then = c .before .before .before .before in
     let opened = then .before .before .before in
-    let zero = opened .before .before .before .before in
-    let start = zero .before .before .before .before .before in
-    opening-refused _ _ _ _ (zero .clear .ensures ∙ ledger-cleared (start .args .ledger .now) (start .pre .0)) (opened .«open» .ensures .0) (opened .«open» .ensures .1) _ _ _ (then .if1 .taken)
-    (put .put-refused .ensures .0) (put .put-refused .ensures .1 .0) (put .put-refused .ensures .1 .1)
+    opening-refused _ _ _ _ (opened .«open» .ensures .0) (opened .«open» .ensures .1) _ _ _ (then .if1 .taken)
+    (put .put-refused .ensures .0) (put .put-refused .ensures .1 .0) (omega arith)
 
 same-length-3 : tie.Need-same-length-3
 same-length-3 c = search needs
@@ -39,15 +34,12 @@ same-length-3 c = search needs
 returns-2 : tie.Need-returns-2
 returns-2 c =
     let opened = c .before .before .before in
-    let zero = opened .before .before .before .before in
-    let start = zero .before .before .before .before .before in
-    opening-opened _ _ _ _ (zero .clear .ensures ∙ ledger-cleared (start .args .ledger .now) (start .pre .0)) (opened .«open» .ensures .0) (opened .«open» .ensures .1) _ (c .if1 .left)
+    opening-opened _ _ _ _ (opened .«open» .ensures .0) (opened .«open» .ensures .1) _ (c .if1 .left)
 
 pub list-opening-spec : {M : Type 1} → statement M
 list-opening-spec =
     tie.close
     (tie.spec
-    clear-requires
     open-requires
     cast-put-refused
     put-refused-requires

@@ -1,4 +1,4 @@
--- `listing::lines::put_cut` meets its contract. The block stands behind the word.
+-- `listing::lines::put_cut` meets its contract. The block stands after the word.
 use native.Mathlib.Omega.{arith}
 use borrow.Author.Needs.{needs}
 use Rattle.listing.specs.Lines.{text, cutLine}

@@ -1,4 +1,4 @@
--- `listing::lines::put_pool_line` meets its contract. The word, the interval and the four words stand one behind the other.
+-- `listing::lines::put_pool_line` meets its contract. The word, the interval and the four words stand one after the other.
 use native.Mathlib.Omega.{arith}
 use borrow.Author.Needs.{needs}
 use Rattle.words.specs.Words.{entries, wordsIn}
@@ -17,8 +17,8 @@ put-text-requires c κs = search needs
 put-field-requires : tie.Need-put-field-requires
 put-field-requires c κs = search needs
 
-put-words-requires : tie.Need-put-words-requires
-put-words-requires c κs = search needs
+put-word-line-requires : tie.Need-put-word-line-requires
+put-word-line-requires c κs = search needs
 
 same-length : tie.Need-same-length
 same-length c = search needs
@@ -33,7 +33,7 @@ returns c =
     three-placed _ _ _ _ _ _ _ _ _ _ _ (omega arith) (omega arith)
     (first .put-text .ensures .0) (first .put-text .ensures .1)
     (second .put-field .ensures .0) (second .put-field .ensures .1 .0)
-    (last .put-words .ensures .0) (last .put-words .ensures .1 .0)
+    (last .put-word-line .ensures .0) (last .put-word-line .ensures .1 .0)
     in
     (all .0, (all .1, omega arith))
 
@@ -44,6 +44,6 @@ put-pool-line-spec =
     slice-aggregate-put-text
     put-text-requires
     put-field-requires
-    put-words-requires
+    put-word-line-requires
     same-length
     returns)

@@ -1,4 +1,4 @@
--- `listing::lines::put_refused` meets its contract. The word, the block and the ground stand one behind the other.
+-- `listing::lines::put_refused` meets its contract. The word, the block and the ground stand one after the other.
 use native.Mathlib.Omega.{arith}
 use borrow.Author.Needs.{needs}
 use Rattle.listing.specs.Lines.{text, line, refusedLine}

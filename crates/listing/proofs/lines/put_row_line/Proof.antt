@@ -1,8 +1,9 @@
--- `listing::lines::put_row_line` meets its contract. The interval, the id and the words stand one behind the other.
+-- `listing::lines::put_row_line` meets its contract. The interval, the id and the words stand one after the other.
 use native.Mathlib.Omega.{arith}
 use borrow.Author.Needs.{needs}
 use Rattle.words.specs.Words.{entries, wordsIn}
 use Rattle.listing.specs.Lines.{line}
+use Rattle.listing.specs.Npalist.{rowLine}
 use Rattle.words.proofs.Placing.{three-placed}
 use Rattle.listing.proofs.lines.put_row_line.Statement.{statement}
 use Rattle.listing.proofs.lines.put_row_line.Tie as tie
@@ -13,14 +14,14 @@ put-field-requires c κs = search needs
 put-field-requires-2 : tie.Need-put-field-requires-2
 put-field-requires-2 c κs = search needs
 
-put-words-requires : tie.Need-put-words-requires
-put-words-requires c κs = search needs
+put-word-line-requires : tie.Need-put-word-line-requires
+put-word-line-requires c κs = search needs
 
 same-length : tie.Need-same-length
 same-length c = search needs
 
 returns : tie.Need-returns
-unfolding wordsIn entries line
+unfolding rowLine wordsIn entries line
 returns c =
     let last = c .before .before in
     let second = last .before .before .before .before in
@@ -29,11 +30,11 @@ returns c =
     three-placed _ _ _ _ _ _ _ _ _ _ _ (omega arith) (omega arith)
     (first .put-field .ensures .0) (first .put-field .ensures .1 .0)
     (second .put-field2 .ensures .0) (second .put-field2 .ensures .1 .0)
-    (last .put-words .ensures .0) (last .put-words .ensures .1 .0)
+    (last .put-word-line .ensures .0) (last .put-word-line .ensures .1 .0)
     in
     (all .0, (all .1, omega arith))
 
 pub put-row-line-spec : {M : Type 1} → statement M
 put-row-line-spec =
     tie.close
-    (tie.spec put-field-requires put-field-requires-2 put-words-requires same-length returns)
+    (tie.spec put-field-requires put-field-requires-2 put-word-line-requires same-length returns)

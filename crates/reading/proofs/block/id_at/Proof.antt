@@ -1,30 +1,26 @@
--- `reading::block::id_at` meets its contract. The word at the place of the id.
-use Prim.Native.Nat.{_+_, _*_}
-use mathlib.Core.Path.{sym, ap, _∙_}
+-- `reading::block::id_at` meets its contract. The number at the place of the id.
+use mathlib.Core.Path.{sym, _∙_}
 use borrow.Author.Needs.{needs}
-use Rattle.words.specs.Words.{numberAt}
-use Rattle.reading.specs.Block.{idBytes}
+use Rattle.reading.specs.Values.{blockIn}
 use Rattle.reading.proofs.BlockTests.{id-is}
 use Rattle.reading.proofs.block.id_at.Statement.{statement}
 use Rattle.reading.proofs.block.id_at.Tie as tie
 
-ids-offset-requires : tie.Need-ids-offset-requires
-ids-offset-requires c κs = search needs
+mul-number32 : tie.Need-mul-number32
+mul-number32 c = search needs
 
-mul-word32 : tie.Need-mul-word32
-mul-word32 c = search needs
+add-number32 : tie.Need-add-number32
+add-number32 c = search needs
 
-add-word32 : tie.Need-add-word32
-add-word32 c = search needs
-
-word32-requires : tie.Need-word32-requires
-word32-requires c κs = search needs
+number32-requires : tie.Need-number32-requires
+number32-requires c κs = search needs
 
 returns : tie.Need-returns
+unfolding blockIn
 returns c =
-    let b = c .before .before .before .args .block .now in
-    let i = c .before .before .before .args .i in
-    c .word32 .ensures .0 ∙ ap (λ at. numberAt 4 b (at + idBytes * i)) (c .before .ids-offset .ensures .0) ∙ sym (id-is b i (c .before .before .before .pre .1 .0))
+    let s = c .before .before .before in
+    let says = s .pre .0 .read .says in
+    c .number32 .ensures .0 ∙ sym (id-is (s .args .block .now) (blockIn (s .args .b)) says (s .args .i) (s .pre .1))
 
 pub id-at-spec : {M : Type 1} → statement M
-id-at-spec = tie.close (tie.spec ids-offset-requires mul-word32 add-word32 word32-requires returns)
+id-at-spec = tie.close (tie.spec mul-number32 add-number32 number32-requires returns)

@@ -1,6 +1,6 @@
 -- `reading::block::not_a_block` meets its contract. The test of a format, with the block's bounds.
 use borrow.Author.Needs.{needs}
-use Rattle.reading.specs.Block.{blockOf, notABlock}
+use Rattle.reading.specs.Block.{blockWords, notABlock}
 use Rattle.reading.proofs.block.not_a_block.Statement.{statement}
 use Rattle.reading.proofs.block.not_a_block.Tie as tie
 
@@ -8,7 +8,7 @@ not-of-format-requires : tie.Need-not-of-format-requires
 not-of-format-requires c κs = search needs
 
 returns : tie.Need-returns
-unfolding notABlock blockOf
+unfolding notABlock blockWords
 returns c = c .not-of-format .ensures
 
 pub not-a-block-spec : {M : Type 1} → statement M

@@ -1,184 +1,173 @@
--- `settling::charging::charge_rows` meets its contract. What is left to write is the words of the rows from i on, beside the accounts from j on.
-use Prim.Native.Nat.{ℕ, _-_}
-use mathlib.Core.Path.{ap₂, sym, _∙_}
-use mathlib.Core.Logic.{⊎-elim}
-use native.Mathlib.Nat.{le-refl}
+-- `settling::charging::charge_rows`: what is left to add and to write is that of the rows from i on, each found by the
+-- walk from its account on.
+use Prim.Native.Nat.{_-_, _≤_}
+use mathlib.Core.Path.{_≡_, refl, _∙_}
 use native.Mathlib.Omega.{arith}
-use Rattle.reading.specs.Interval.{headerOf}
-use Rattle.assessment.specs.Assessment.{Ratio, ratioOf}
-use Rattle.ledger.specs.Ledger.{ledgerBytes, accountCount, ledgerOf}
-use Rattle.settling.proofs.ChargingLaws.{Walking, walk-starts, walk-passes, walk-meets, walk-ends, row-few, row-begins, row-holds, account-left, account-few, account-lies, words-lie, curve-asks, figures-asks, charge-asks}
+use borrow.Author.Needs.{needs}
+use Rattle.reading.proofs.SoundRows.{sound-row}
+use Rattle.settling.specs.Values.{Passed}
+use Rattle.settling.proofs.Turns.{Walks, Found, walk-starts, walk-finds, accounts-are, account-lies}
+use Rattle.settling.proofs.ChargingLaws.{
+  Charging,
+  charging-starts,
+  charging-ends,
+  Turn,
+  turn-known,
+  charges-more,
+  bonus-more,
+  charging-turn,
+}
 use Rattle.settling.proofs.charging.charge_rows.Statement.{statement}
 use Rattle.settling.proofs.charging.charge_rows.Tie as tie
 
 abbrev Inv-loop : tie.InvT-loop
-Inv-loop ledger file above below rows₀ cone days count first i₀ j₀ rows i j =
-    Walking ledger file (record { numerator = above .0; denominator = below .0 }) cone days count first rows i j
+Inv-loop ledger file h ratio result₀ terms charges₀ bonus₀ walk₀ i₀ result charges bonus walk i =
+    (walk .accounts ≡ walk₀ .accounts)
+    × ((walk .account ≤ walk .accounts)
+    × (Walks ledger file i (walk .account) × Charging ledger file result₀ result (charges .0) (bonus .0) i))
 
 abbrev μ-loop : tie.MeasureT-loop
-μ-loop ledger file above below rows₀ cone days count first i₀ j₀ rows i j = accountCount ledger - j
+μ-loop ledger file h ratio result₀ terms charges₀ bonus₀ walk₀ i₀ result charges bonus walk i = h .rows - i
 
-word-requires : tie.Need-word-requires Inv-loop μ-loop
-unfolding ledgerBytes
-word-requires c κs = omega (arith, c .before .before .before .pre .0 .room)
+-- what the function requires, in a turn
+abbrev passed : (t : tie.Then1 Inv-loop μ-loop)
+    → let args = t .before .before .before .before .before .before .before .before .args in
+    Passed (args .ledger .now) (args .s) (args .file .now) (args .h)
+passed t = t .before .before .before .before .before .before .before .before .pre .0
 
-word-requires-2 : tie.Need-word-requires-2 Inv-loop μ-loop
-unfolding ledgerBytes
-word-requires-2 c κs = omega (arith, c .before .before .before .before .pre .0 .room)
+-- the walk goes down all accounts
+all-accounts : (t : tie.Then1 Inv-loop μ-loop)
+    → let start = t .before .before .before .before .before .before .before .before in
+    t .before .before .loop .walk .accounts ≡ start .args .s .accounts
+all-accounts t = t .before .before .loop .inv .0 ∙ t .before .before .before .start .ensures .1
 
-word-requires-3 : tie.Need-word-requires-3 Inv-loop μ-loop
-word-requires-3 c κs = omega (arith, c .before .before .before .before .before .pre .0 .header)
+-- it finds the row's account
+found : (c : tie.After-to Inv-loop μ-loop)
+    → let t = c .before .before in
+    let start = t .before .before .before .before .before .before .before .before in
+    let l = t .before .before .loop in
+    Found (start .args .ledger .now) (start .args .file .now) (l .i) (l .walk .account) (c .to .result .account)
+found c =
+    let t = c .before .before in
+    let p = passed t in
+    let inv = t .before .before .loop .inv in
+    walk-finds p (t .if1 .taken) _ (inv .1 .1 .0) (c .before .row-at .ensures) refl (c .to .ensures .0)
 
-word-requires-4 : tie.Need-word-requires-4 Inv-loop μ-loop
-word-requires-4 c κs = omega (arith, c .before .before .before .before .before .before .pre .0 .header)
+-- what is known of the row, its figures and its account
+turn : (c : tie.After-raised Inv-loop μ-loop)
+    → let t = c .before .before .before .before .before in
+    Turn (passed t) (t .before .before .loop .i) (c .before .before .row-figures .result) (c .raised .result)
+turn c =
+    let account = c .before in
+    let figures = account .before in
+    let to = figures .before in
+    let row = to .before in
+    let t = row .before in
+    let ratio = t .before .before .before .before .before .before .before .before .pre .1 .0 in
+    turn-known (passed t) (t .if1 .taken) (found to) _ (row .row-at .ensures) _ ratio _ (figures .row-figures .ensures)
+    _ _ (account .account-at .ensures) (c .raised .ensures)
+
+start-requires : tie.Need-start-requires Inv-loop μ-loop
+start-requires c κs = search needs
 
 loop-holds : tie.Need-loop-holds Inv-loop μ-loop
-unfolding ledgerOf headerOf
 loop-holds c =
-    let start = c .before .before .before .before .before .before .before in
-    walk-starts (start .pre .0) (c .before .before .before .word .ensures) (c .before .before .word2 .ensures) (c .before .word3 .ensures .0) (c .word4 .ensures .0) (start .pre .1 .1 .1 .1)
+    let first = c .start .ensures .0 in
+    let walks = walk-starts (c .before .before .before .before .before .pre .0) in
+    (refl, (omega arith, (rw first walks, charging-starts _ _ _)))
 
-account-at-requires : tie.Need-account-at-requires Inv-loop μ-loop
-account-at-requires c κs = account-lies (c .before .loop .inv) (c .loop-test .taken)
+row-at-requires : tie.Need-row-at-requires Inv-loop μ-loop
+row-at-requires c κs = search needs
 
-mul-row : tie.Need-mul-row Inv-loop μ-loop
-mul-row c =
-    let turn = c .before in
-    omega (arith, row-few (turn .before .loop .inv) (turn .loop-test .taken))
-
-add-row : tie.Need-add-row Inv-loop μ-loop
-add-row c =
-    let turn = c .before in
-    omega (arith, row-few (turn .before .loop .inv) (turn .loop-test .taken), c .before .before .before .word4 .ensures .1)
-
-sub-word : tie.Need-sub-word Inv-loop μ-loop
-sub-word c =
-    let turn = c .before in
-    row-begins (turn .before .loop .inv) (turn .loop-test .taken)
-
-part-word-start : tie.Need-part-word-start Inv-loop μ-loop
-part-word-start c =
-    let turn = c .before in
-    row-begins (turn .before .loop .inv) (turn .loop-test .taken)
-
-part-word-end : tie.Need-part-word-end Inv-loop μ-loop
-part-word-end c = le-refl _
-
-word-requires-5 : tie.Need-word-requires-5 Inv-loop μ-loop
-word-requires-5 c κs =
-    let turn = c .before .before in
-    omega (arith, row-holds (turn .before .loop .inv) (turn .loop-test .taken))
-
-sub-curve-at : tie.Need-sub-curve-at Inv-loop μ-loop
-sub-curve-at c =
-    let turn = c .before .before .before .before .before in
-    row-begins (turn .before .loop .inv) (turn .loop-test .taken)
-
-part-curve-at-start : tie.Need-part-curve-at-start Inv-loop μ-loop
-part-curve-at-start c =
-    let turn = c .before .before .before .before .before in
-    row-begins (turn .before .loop .inv) (turn .loop-test .taken)
-
-part-curve-at-end : tie.Need-part-curve-at-end Inv-loop μ-loop
-part-curve-at-end c = le-refl _
-
-curve-at-requires : tie.Need-curve-at-requires Inv-loop μ-loop
-curve-at-requires c κs =
-    let turn = c .before .before .before .before .before .before in
-    curve-asks (turn .before .loop .inv) (turn .loop-test .taken)
-
-sub-row-figures : tie.Need-sub-row-figures Inv-loop μ-loop
-sub-row-figures c =
-    let turn = c .before .before .before .before .before .before .before in
-    row-begins (turn .before .loop .inv) (turn .loop-test .taken)
-
-part-row-figures-start : tie.Need-part-row-figures-start Inv-loop μ-loop
-part-row-figures-start c =
-    let turn = c .before .before .before .before .before .before .before in
-    row-begins (turn .before .loop .inv) (turn .loop-test .taken)
-
-part-row-figures-end : tie.Need-part-row-figures-end Inv-loop μ-loop
-part-row-figures-end c = le-refl _
-
-sub-row-figures-2 : tie.Need-sub-row-figures-2 Inv-loop μ-loop
-sub-row-figures-2 c = omega (arith, c .before .curve-at .ensures .1)
-
-part-row-figures-start-2 : tie.Need-part-row-figures-start-2 Inv-loop μ-loop
-part-row-figures-start-2 c = omega (arith, c .before .curve-at .ensures .1)
-
-part-row-figures-end-2 : tie.Need-part-row-figures-end-2 Inv-loop μ-loop
-part-row-figures-end-2 c = le-refl _
+to-requires : tie.Need-to-requires Inv-loop μ-loop
+to-requires c κs =
+    let t = c .before in
+    let ledger-read = passed t .ledger-read in
+    let all = all-accounts t in
+    let inv = t .before .before .loop .inv in
+    (all ∙ accounts-are (passed t), (rw all (ledger-read .room), (omega (arith, all, ledger-read .few), inv .1 .0)))
 
 row-figures-requires : tie.Need-row-figures-requires Inv-loop μ-loop
 row-figures-requires c κs =
-    let turn = c .before .before .before .before .before .before .before .before .before in
-    figures-asks (turn .before .loop .inv) (turn .loop-test .taken) _ (c .before .before .curve-at .ensures .0) (c .before .before .curve-at .ensures .1 .0) (c .before .before .before .before .before .before .before .before .before .before .before .before .before .before .before .before .before .before .pre .1 .1 .0)
+    let t = c .before .before in
+    let p = passed t in
+    let sound = sound-row (p .scanned) (p .tabled .read) _ (t .if1 .taken) (c .before .row-at .ensures) in
+    (p .tabled, (sound, t .before .before .before .before .before .before .before .before .pre .1 .1))
 
-sub-row-charge : tie.Need-sub-row-charge Inv-loop μ-loop
-sub-row-charge c =
-    let turn = c .before .before .before .before .before .before .before .before .before .before in
-    row-begins (turn .before .loop .inv) (turn .loop-test .taken)
+account-at-requires : tie.Need-account-at-requires Inv-loop μ-loop
+account-at-requires c κs =
+    let to = c .before in
+    account-lies (passed (to .before .before)) (found to .within)
 
-part-row-charge-start : tie.Need-part-row-charge-start Inv-loop μ-loop
-part-row-charge-start c =
-    let turn = c .before .before .before .before .before .before .before .before .before .before in
-    row-begins (turn .before .loop .inv) (turn .loop-test .taken)
+raised-requires : tie.Need-raised-requires Inv-loop μ-loop
+raised-requires c κs = search needs
 
-part-row-charge-end : tie.Need-part-row-charge-end Inv-loop μ-loop
-part-row-charge-end c = le-refl _
+charge-requires : tie.Need-charge-requires Inv-loop μ-loop
+charge-requires c κs =
+    let t = c .before .before .before .before .before in
+    (passed t .ledger-read .terms, (turn c .largest, turn c .shortfall))
 
-row-charge-requires : tie.Need-row-charge-requires Inv-loop μ-loop
-row-charge-requires c κs =
-    let turn = c .before .before .before .before .before .before .before .before .before .before .before in
-    charge-asks (turn .before .loop .inv) (turn .loop-test .taken) _ (c .before .before .before .before .curve-at .ensures .0) (c .before .row-figures .ensures) (c .before .before .before .before .before .before .before .before .before .before .account-at .ensures)
+write-row-requires : tie.Need-write-row-requires Inv-loop μ-loop
+write-row-requires c κs =
+    let t = c .before .before .before .before .before .before .before in
+    (passed t .tabled .rows-few, t .if1 .taken)
 
-mul-put-row : tie.Need-mul-put-row Inv-loop μ-loop
-mul-put-row c =
-    let turn = c .before .before .before .before .before .before .before .before .before .before .before .before .before in
-    omega (arith, row-few (turn .before .loop .inv) (turn .loop-test .taken))
+plus-requires : tie.Need-plus-requires Inv-loop μ-loop
+plus-requires c κs =
+    let charge = c .before .before .before .before in
+    let t = charge .before .before .before .before .before .before in
+    let sums = t .before .before .loop .inv .1 .1 .1 in
+    charges-more (passed t) (turn (charge .before)) (charge .charge .ensures) sums
 
-put-row-requires : tie.Need-put-row-requires Inv-loop μ-loop
-put-row-requires c κs =
-    let turn = c .before .before .before .before .before .before .before .before .before .before .before .before .before in
-    words-lie (turn .before .loop .inv) (turn .loop-test .taken)
+plus-requires-2 : tie.Need-plus-requires-2 Inv-loop μ-loop
+plus-requires-2 c κs =
+    let charge = c .before .before .before .before .before in
+    let t = charge .before .before .before .before .before .before in
+    let sums = t .before .before .loop .inv .1 .1 .1 in
+    bonus-more (passed t) (turn (charge .before)) (charge .charge .ensures) sums
+
+on-requires : tie.Need-on-requires Inv-loop μ-loop
+on-requires c κs =
+    let to = c .before .before .before .before .before .before .before .before .before .before in
+    let t = to .before .before in
+    omega (arith, found to .within, to .to .ensures .1 .0, all-accounts t, accounts-are (passed t))
 
 add-i : tie.Need-add-i Inv-loop μ-loop
 add-i c =
-    let turn = c .before .before .before .before .before .before .before .before .before .before .before .before .before .before .before .before in
-    omega (arith, row-few (turn .before .loop .inv) (turn .loop-test .taken))
-
-add-j : tie.Need-add-j Inv-loop μ-loop
-add-j c =
-    let turn = c .before .before .before .before .before in
-    omega (arith, account-few (turn .before .loop .inv) (turn .loop-test .taken))
+    let charge = c .before .before .before .before .before .before .before in
+    let t = charge .before .before .before .before .before .before in
+    omega (arith, t .if1 .taken, passed t .tabled .rows-few)
 
 loop-less : tie.Need-loop-less Inv-loop μ-loop
 loop-less c =
-    let turn = c .before .before .before .before .before in
-    omega (arith, account-left (turn .before .loop .inv) (turn .loop-test .taken))
+    let charge = c .before .before .before .before .before .before .before in
+    let t = charge .before .before .before .before .before .before in
+    omega (arith, t .if1 .taken)
 
 loop-again : tie.Need-loop-again Inv-loop μ-loop
 loop-again c =
-    let turn = c .before .before .before .before .before in
-    let inv = turn .before .loop .inv in
-    let on = turn .loop-test .taken in
-    let read = c .before .before .before .before .account-at .ensures in
-    let id = c .before .before .word5 .ensures .0 in
-    ⊎-elim
-    (λ w. walk-meets inv on _ (w .2 .ensures .0) (w .5 .ensures) read id (w .0 .taken) (w .7 .ensures) (w .12 ∙ w .9 .ensures) (w .13))
-    (λ w. walk-passes inv on (read .0) id (w .0 .left) (w .1) (w .2))
-    (c .if1 .came)
+    let sum = c .before .before in
+    let row = sum .before .before .before in
+    let charge = row .before .before in
+    let to = charge .before .before .before .before in
+    let t = to .before .before in
+    let p = passed t in
+    let inv = t .before .before .loop .inv in
+    let p = passed t in
+    let all = to .to .ensures .1 .0 in
+    let near : c .on .result .account ≤ c .on .result .accounts
+    = omega (arith, c .on .ensures, found to .within, all, all-accounts t, accounts-are p) in
+    let step = charging-turn p (turn (charge .before)) (charge .charge .ensures) (inv .1 .1 .1)
+    (row .write-row .ensures) (sum .plus .ensures) (c .before .plus2 .ensures) in
+    (c .on .ensures .1 ∙ all ∙ inv .0, (near, (rw (c .on .ensures .0) (found to .next), step)))
 
 same-length : tie.Need-same-length Inv-loop μ-loop
-same-length c = c .before .loop .inv .long ∙ sym (c .before .before .before .before .before .before .before .before .before .pre .1 .1 .1 .1)
+same-length c = search needs
 
 returns : tie.Need-returns Inv-loop μ-loop
-unfolding ratioOf
 returns c =
-    let start = c .before .before .before .before .before .before .before .before .before in
-    let sides : ℕ → ℕ → Ratio = λ above below. record { numerator = above; denominator = below } in
-    let ratio = ap₂ sides (start .pre .1 .0) (start .pre .1 .1 .1 .0) in
-    walk-ends (c .before .loop .inv) (c .loop-test .left) ratio
+    let p = c .before .before .before .before .before .before .before .before .pre .0 in
+    charging-ends p (c .before .before .loop .inv .1 .1 .1) (omega (arith, c .if1 .left))
 
 pub charge-rows-spec : {M : Type 1} → statement M
 charge-rows-spec =
@@ -186,37 +175,19 @@ charge-rows-spec =
     (tie.spec
     Inv-loop
     μ-loop
-    word-requires
-    word-requires-2
-    word-requires-3
-    word-requires-4
+    start-requires
     loop-holds
-    account-at-requires
-    mul-row
-    add-row
-    sub-word
-    part-word-start
-    part-word-end
-    word-requires-5
-    sub-curve-at
-    part-curve-at-start
-    part-curve-at-end
-    curve-at-requires
-    sub-row-figures
-    part-row-figures-start
-    part-row-figures-end
-    sub-row-figures-2
-    part-row-figures-start-2
-    part-row-figures-end-2
+    row-at-requires
+    to-requires
     row-figures-requires
-    sub-row-charge
-    part-row-charge-start
-    part-row-charge-end
-    row-charge-requires
-    mul-put-row
-    put-row-requires
+    account-at-requires
+    raised-requires
+    charge-requires
+    write-row-requires
+    plus-requires
+    plus-requires-2
+    on-requires
     add-i
-    add-j
     loop-less
     loop-again
     same-length

@@ -1,108 +1,107 @@
--- `settling::grounds::row_ids_unknown` meets its contract. What is left to test is whether a row from i on has no account from j on.
-use Prim.Native.Nat.{_+_, _-_, _*_, _≤_}
-use mathlib.Core.Path.{_≡_, sym}
-use mathlib.Core.Logic.{⊎-elim}
+-- `settling::grounds::row_ids_unknown` meets its contract. The loop's invariant: ground 12 refuses just where the walk,
+-- from where it stands on, does
+-- not find the ids of all rows from i on. The measure is what is left of the rows.
 use native.Mathlib.Omega.{arith}
+use Prim.Native.Nat.{_+_, _-_, _≤_}
+use mathlib.Core.Path.{_≡_, sym, ap, _∙_}
 use borrow.Author.Needs.{needs}
-use Rattle.reading.specs.Interval.{headerOf, rowsOf}
-use Rattle.assessment.proofs.SumLaws.{part-length}
-use Rattle.ledger.specs.Ledger.{ledgerBytes, accountCount, ledgerOf}
+use borrow.Author.Tests.{leb-true, leb-false}
+use Rattle.reading.specs.Interval.{rowsOf}
+use Rattle.reading.specs.Values.{rowIn}
+use Rattle.ledger.specs.Ledger.{accountCount, ledgerOf}
+use Rattle.ledger.proofs.Sound.{said, read-rises}
 use Rattle.settling.specs.Settling.{rowIdsUnknown}
-use Rattle.settling.proofs.SettlingTests.{unknownLeft, unknown-start, row-id, row-beyond, rows-met, row-missed, row-met, row-later}
+use Rattle.settling.proofs.IdTests.{walk-room, unknownFrom, unknown-start, rows-found, row-missed, row-found}
 use Rattle.settling.proofs.grounds.row_ids_unknown.Statement.{statement}
 use Rattle.settling.proofs.grounds.row_ids_unknown.Tie as tie
 
 abbrev Inv-loop : tie.InvT-loop
-Inv-loop ledger file accounts count first i₀ j₀ i j =
-    (accounts ≡ accountCount ledger)
-    × ((count ≡ headerOf file .rowCount)
-    × ((first ≡ headerOf file .rowsOffset)
-    × ((i ≤ count) × ((j ≤ accounts) × (rowIdsUnknown (ledgerOf ledger) (rowsOf file) ≡ unknownLeft ledger file i j)))))
+Inv-loop ledger file h walk₀ i₀ walk i =
+    (i ≤ h .rows)
+    × ((walk .account ≤ walk .accounts)
+    × ((walk .accounts ≡ accountCount ledger)
+    × (rowIdsUnknown (ledgerOf ledger) (rowsOf file) ≡ unknownFrom ledger file i (walk .account))))
 
 abbrev μ-loop : tie.MeasureT-loop
-μ-loop ledger file accounts count first i₀ j₀ i j = accounts - j
+μ-loop ledger file h walk₀ i₀ walk i = h .rows - i
 
-word-requires : tie.Need-word-requires Inv-loop μ-loop
-unfolding ledgerBytes
-word-requires c κs = omega arith
-
-word-requires-2 : tie.Need-word-requires-2 Inv-loop μ-loop
-word-requires-2 c κs = search needs
-
-word-requires-3 : tie.Need-word-requires-3 Inv-loop μ-loop
-word-requires-3 c κs = search needs
+start-requires : tie.Need-start-requires Inv-loop μ-loop
+start-requires c κs = search needs
 
 loop-holds : tie.Need-loop-holds Inv-loop μ-loop
-unfolding accountCount headerOf
 loop-holds c =
-    let start = c .before .before .before .before .before in
-    (c .before .before .word .ensures, (c .before .word2 .ensures .0, (c .word3 .ensures .0, (omega arith, (omega arith, unknown-start _ _ (start .pre .1 .0))))))
+    let start = c .before .before .before in
+    let ledger = start .pre .0 in
+    let count = c .start .ensures .1 ∙ said _ _ (ledger .says) .count in
+    let from = unknownFrom (start .args .ledger .now) (start .args .file .now) 0 in
+    let first = ap (λ j. from j) (sym (c .start .ensures .0)) in
+    (omega arith, (omega (arith, c .start .ensures), (count, unknown-start _ _ (read-rises ledger) ∙ first)))
+
+row-at-requires : tie.Need-row-at-requires Inv-loop μ-loop
+row-at-requires c κs = search needs
+
+to-requires : tie.Need-to-requires Inv-loop μ-loop
+to-requires c κs =
+    let loop = c .before .before .before in
+    let inv = loop .loop .inv .1 in
+    let room = walk-room (loop .before .before .before .before .pre .0) _ (inv .1 .0) in
+    (inv .1 .0, (room .0, (room .1, inv .0)))
+
+ended-requires : tie.Need-ended-requires Inv-loop μ-loop
+ended-requires c κs = search needs
 
 returns : tie.Need-returns Inv-loop μ-loop
+unfolding rowIn
 returns c =
-    let l = c .before .before in
-    sym (row-beyond _ _ (l .loop .i) (l .loop .j) (l .loop .inv .1 .1 .1 .1 .1) (omega arith) (omega arith))
+    let to = c .before .before in
+    let row = to .before in
+    let loop = row .before .before .before in
+    let start = loop .before .before .before .before in
+    let inv = loop .loop .inv .1 .1 in
+    let walk = to .to .result in
+    let end = leb-true (walk .accounts) (walk .account) (sym (c .before .ended .ensures) ∙ c .if2 .taken) in
+    sym
+    (row-missed (start .args .ledger .now) (start .args .file .now) (start .pre .1 .read)
+    (loop .loop .i) (loop .loop .walk .account) (inv .1) (row .before .if1 .taken) (row .row-at .ensures)
+    (walk .account) (to .to .ensures .0) (omega (arith, end, inv .0, to .to .ensures .1 .0)))
 
-account-at-requires : tie.Need-account-at-requires Inv-loop μ-loop
-unfolding ledgerBytes
-account-at-requires c κs = omega arith
-
-mul-word : tie.Need-mul-word Inv-loop μ-loop
-mul-word c = search needs
-
-add-word : tie.Need-add-word Inv-loop μ-loop
-add-word c = search needs
-
-sub-word : tie.Need-sub-word Inv-loop μ-loop
-sub-word c = search needs
-
-part-word-start : tie.Need-part-word-start Inv-loop μ-loop
-part-word-start c = search needs
-
-part-word-end : tie.Need-part-word-end Inv-loop μ-loop
-part-word-end c = search needs
-
-word-requires-4 : tie.Need-word-requires-4 Inv-loop μ-loop
-word-requires-4 c κs =
-    let l = c .before .before .before .before in
-    let f = l .before .before .before .before .before .before .args .file .now in
-    omega (arith, part-length f (l .before .word3 .result + 56 * l .loop .i))
-
-returns-2 : tie.Need-returns-2 Inv-loop μ-loop
-returns-2 c =
-    let a = c .before .before .before .before in
-    let l = a .before .before .before in
-    let inv = l .loop .inv in
-    let id = row-id _ (l .loop .i) _ _ (inv .1 .1 .0) (c .before .before .word4 .ensures .0) in
-    sym (row-missed _ _ (l .loop .i) (l .loop .j) (inv .1 .1 .1 .1 .1) (omega arith) (omega arith) _ _ (a .account-at .ensures .0) id (omega arith))
+on-requires : tie.Need-on-requires Inv-loop μ-loop
+on-requires c κs = leb-false _ _ (sym (c .before .ended .ensures) ∙ c .if2 .left)
 
 add-i : tie.Need-add-i Inv-loop μ-loop
 add-i c = search needs
-
-add-j : tie.Need-add-j Inv-loop μ-loop
-add-j c = search needs
 
 loop-less : tie.Need-loop-less Inv-loop μ-loop
 loop-less c = search needs
 
 loop-again : tie.Need-loop-again Inv-loop μ-loop
+unfolding rowIn
 loop-again c =
-    let a = c .before .before .before .before .before .before in
-    let l = a .before .before .before in
-    let inv = l .loop .inv in
-    let id = row-id _ (l .loop .i) _ _ (inv .1 .1 .0) (c .before .before .before .before .word4 .ensures .0) in
-    let low : c .if3 .i ≤ l .loop .i + 1 = ⊎-elim (λ w. omega (arith, w .1)) (λ w. omega (arith, w .1)) (c .if3 .came) in
+    let test = c .before in
+    let to = test .before .before in
+    let row = to .before in
+    let loop = row .before .before .before in
+    let start = loop .before .before .before .before in
+    let inv = loop .loop .inv .1 .1 in
+    let on = c .on .ensures in
+    let walk = to .to .result in
+    let more = leb-false (walk .accounts) (walk .account) (sym (test .before .ended .ensures) ∙ test .if2 .left) in
+    let ledger = start .args .ledger .now in
+    let file = start .args .file .now in
     let left =
-    ⊎-elim
-    (λ w. row-met _ _ (l .loop .i) (l .loop .j) (inv .1 .1 .1 .1 .1) (omega arith) (omega arith) _ _ (a .account-at .ensures .0) id (w .0 .taken) _ (w .1))
-    (λ w. row-later _ _ (l .loop .i) (l .loop .j) (inv .1 .1 .1 .1 .1) (omega arith) (omega arith) _ _ (a .account-at .ensures .0) id (omega (arith, w .0 .left)) _ (w .1))
-    (c .if3 .came) in
-    (inv .0, (inv .1 .0, (inv .1 .1 .0, (omega (arith, low), (omega arith, left)))))
+    row-found ledger file (start .pre .1 .read) (loop .loop .i) (loop .loop .walk .account) (inv .1)
+    (row .before .if1 .taken) (row .row-at .ensures)
+    (walk .account) (to .to .ensures .0) (omega (arith, more, inv .0, to .to .ensures .1 .0)) in
+    let next = ap (λ j. unknownFrom ledger file (loop .loop .i + 1) j) (sym (on .0)) in
+    (omega arith, (omega (arith, on, more), (on .1 ∙ to .to .ensures .1 .0 ∙ inv .0, left ∙ next)))
 
-returns-3 : tie.Need-returns-3 Inv-loop μ-loop
-returns-3 c =
-    let l = c .before in
-    sym (rows-met _ _ (l .loop .i) (l .loop .j) (l .loop .inv .1 .1 .1 .1 .1) (omega arith))
+returns-2 : tie.Need-returns-2 Inv-loop μ-loop
+returns-2 c =
+    let loop = c .before .before in
+    let start = loop .before .before .before .before in
+    sym
+    (rows-found (start .args .ledger .now) (start .args .file .now) (start .pre .1 .read)
+    (loop .loop .i) (loop .loop .walk .account) (loop .loop .inv .1 .1 .1) (c .if1 .left))
 
 pub row-ids-unknown-spec : {M : Type 1} → statement M
 row-ids-unknown-spec =
@@ -110,21 +109,14 @@ row-ids-unknown-spec =
     (tie.spec
     Inv-loop
     μ-loop
-    word-requires
-    word-requires-2
-    word-requires-3
+    start-requires
     loop-holds
+    row-at-requires
+    to-requires
+    ended-requires
     returns
-    account-at-requires
-    mul-word
-    add-word
-    sub-word
-    part-word-start
-    part-word-end
-    word-requires-4
-    returns-2
+    on-requires
     add-i
-    add-j
     loop-less
     loop-again
-    returns-3)
+    returns-2)

@@ -1,171 +1,253 @@
--- `settling::posting::post_rows` meets its contract. What is left to write is the accounts from j on, posted with the rows from i on.
-use Prim.Native.Nat.{_+_, _-_, _*_, _≤_, _<_}
-use mathlib.Core.Path.{_≡_, sym, _∙_}
-use mathlib.Core.Logic.{⊎-elim}
-use mathlib.Core.List.{[]}
-use mathlib.Core.Bool.{true}
+-- `settling::posting::post_rows`: what is left to credit and to post is that of the rows from i on, each found by the
+-- walk from its account on.
+use Prim.Native.Nat.{_+_, _-_, _≤_}
+use mathlib.Core.Path.{_≡_, refl, sym, _∙_}
 use native.Mathlib.Omega.{arith}
 use borrow.Author.Needs.{needs}
-use lib.Dec.{eqb}
-use Rattle.reading.specs.Interval.{headerOf, rowAt}
-use Rattle.reading.proofs.Walk.{rowPart, row-part}
-use Rattle.assessment.proofs.SumLaws.{part-length}
-use Rattle.ledger.specs.Ledger.{ledgerBytes, accountCount}
-use Rattle.settling.proofs.PostingLaws.{meets-row, rows-long, charge-at, credit-at, sums-fit, account-is, Left, left-start, turn-with, turn-without, left-none}
+use lib.ListN.{length}
+use Rattle.words.specs.Words.{Bytes}
+use Rattle.assessment.specs.Assessment.{mostCents, pool, credit}
+use Rattle.assessment.specs.Values.{mostActual}
+use Rattle.ledger.specs.Ledger.{ledgerBytes}
+use Rattle.settling.specs.Settling.{resultBytes, assessedFile}
+use Rattle.settling.specs.Values.{Passed}
+use Rattle.settling.proofs.SettledLaws.{chargedAt}
+use Rattle.settling.proofs.Turns.{Found, walk-finds, accounts-are, account-lies}
+use Rattle.settling.proofs.PostingLaws.{
+  ids-kept,
+  count-kept,
+  Pass,
+  pass-starts,
+  pass-ends,
+  bonus-read,
+  charge-read,
+  credit-is,
+  credits-more,
+  account-fits,
+  pass-turn,
+}
 use Rattle.settling.proofs.posting.post_rows.Statement.{statement}
 use Rattle.settling.proofs.posting.post_rows.Tie as tie
-use Rattle.settling.proofs.posting.post_rows.Reads as reads
-use Rattle.settling.proofs.posting.post_rows.Lts as lts
-use Rattle.ledger.proofs.layout.account_at.Reads as account-at-reads
-use Rattle.ledger.proofs.layout.word.Reads as layout-word-reads
-use Rattle.ledger.proofs.layout.write_account.Reads as write-account-reads
-use Rattle.settling.proofs.posting.meets.Reads as meets-reads
-use Rattle.settling.proofs.posting.post_row.Reads as post-row-reads
-use Rattle.reading.proofs.interval.word.Reads as interval-word-reads
 
 abbrev Inv-loop : tie.InvT-loop
-Inv-loop ledger₀ file rows accounts first i₀ j₀ ledger i j =
-    (accounts ≡ accountCount ledger₀) × ((first ≡ headerOf file .rowsOffset) × ((j ≤ accounts) × Left ledger₀ file ledger i j))
+Inv-loop ledger₀ file h share result₀ credits₀ walk₀ i₀ ledger result credits walk i =
+    (walk .accounts ≡ walk₀ .accounts)
+    × ((walk .account ≤ walk .accounts) × Pass ledger₀ file result₀ ledger result (credits .0) i (walk .account))
 
 abbrev μ-loop : tie.MeasureT-loop
-μ-loop ledger₀ file rows accounts first i₀ j₀ ledger i j = accounts - j
+μ-loop ledger₀ file h share result₀ credits₀ walk₀ i₀ ledger result credits walk i = h .rows - i
 
-word-requires : tie.Need-word-requires Inv-loop μ-loop
-unfolding ledgerBytes
-word-requires c κs = omega arith
+-- what the function requires, in a turn
+abbrev passed : (t : tie.Then1 Inv-loop μ-loop)
+    → let args = t .before .before .before .before .before .before .before .args in
+    Passed (args .ledger .now) (args .s) (args .file .now) (args .h)
+passed t = t .before .before .before .before .before .before .before .pre .0
 
-word-requires-2 : tie.Need-word-requires-2 Inv-loop μ-loop
-word-requires-2 c κs = omega arith
+-- the pass so far
+abbrev pass : (t : tie.Then1 Inv-loop μ-loop)
+    → let args = t .before .before .before .before .before .before .before .args in
+    let l = t .before .before .loop in
+    Pass (args .ledger .now) (args .file .now) (args .result .now) (l .ledger) (l .result) (l .credits .0) (l .i)
+    (l .walk .account)
+pass t = t .before .before .loop .inv .1 .1
+
+-- the walk goes down all accounts
+all-accounts : (t : tie.Then1 Inv-loop μ-loop)
+    → let start = t .before .before .before .before .before .before .before in
+    t .before .before .loop .walk .accounts ≡ start .args .s .accounts
+all-accounts t = t .before .before .loop .inv .0 ∙ t .before .before .before .start .ensures .1
+
+-- each element of the ledger is a byte
+bytes : (t : tie.Then1 Inv-loop μ-loop)
+    → Bytes (t .before .before .before .before .before .before .before .args .ledger .now)
+bytes t i = omega (arith, t .before .before .before .before .before .before .slice-known .given i)
+
+-- ground 16 does not refuse the pool
+small : (t : tie.Then1 Inv-loop μ-loop)
+    → let args = t .before .before .before .before .before .before .before .args in
+    pool (assessedFile (args .ledger .now) (args .file .now)) ≤ mostCents
+small t =
+    let pre = t .before .before .before .before .before .before .before .pre in
+    omega (arith, pre .1 .1 .1 .0, pre .1 .1 .1 .1 .0)
+
+-- the result has room for the row's words
+room : (t : tie.Then1 Inv-loop μ-loop)
+    → resultBytes (t .before .before .loop .i + 1) ≤ length (t .before .before .loop .result)
+unfolding resultBytes
+room t =
+    let enough = t .before .before .before .before .before .before .before .pre .1 .0 in
+    omega (arith, t .if1 .taken, pass t .crediting .long)
+
+-- the walk finds the row's account
+found : (c : tie.After-to Inv-loop μ-loop)
+    → let t = c .before .before .before in
+    let args = t .before .before .before .before .before .before .before .args in
+    let l = t .before .before .loop in
+    Found (args .ledger .now) (args .file .now) (l .i) (l .walk .account) (c .to .result .account)
+found c =
+    let row = c .before .before in
+    let t = row .before in
+    let ids = ids-kept (passed t) (bytes t) (pass t .posting) in
+    walk-finds (passed t) (t .if1 .taken) _ (pass t .walks) (row .row-at .ensures) ids (c .to .ensures .0)
+
+-- the bonus that is read is the row's
+bonus : (c : tie.After-charged-at Inv-loop μ-loop)
+    → let t = c .before .before .before .before .before .before .before .before in
+    let args = t .before .before .before .before .before .before .before .args in
+    let this = chargedAt (args .ledger .now) (args .file .now) (t .before .before .loop .i) in
+    let kw = c .charged-at .result .bonus .0 in
+    (kw ≡ this .figures .bonus) × (kw ≤ mostActual)
+bonus c =
+    let t = c .before .before .before .before .before .before .before .before in
+    bonus-read (passed t) (bytes t) (small t) (pass t) (t .if1 .taken) (c .charged-at .ensures .0)
+
+-- the credit is the row's
+credited : (c : tie.After-credit Inv-loop μ-loop)
+    → let t = c .before .before .before .before .before .before .before .before .before in
+    let args = t .before .before .before .before .before .before .before .args in
+    let ledger = args .ledger .now in
+    let file = args .file .now in
+    c .credit .result .0 ≡ credit (assessedFile ledger file) (chargedAt ledger file (t .before .before .loop .i))
+credited c =
+    let charge = c .before in
+    let t = charge .before .before .before .before .before .before .before .before in
+    let pre = t .before .before .before .before .before .before .before .pre in
+    credit-is (pre .0) (bytes t) (small t) (pass t) (t .if1 .taken) (pre .1 .1 .1 .0) (pre .1 .1 .1 .1 .1)
+    (bonus charge .0) (c .credit .ensures)
+
+start-requires : tie.Need-start-requires Inv-loop μ-loop
+start-requires c κs = search needs
 
 loop-holds : tie.Need-loop-holds Inv-loop μ-loop
-unfolding accountCount headerOf
-loop-holds c = (c .before .word .ensures, (c .word2 .ensures .0, (omega arith, left-start _ _)))
+loop-holds c =
+    let known = c .before .before .before .slice-known .given in
+    let pre = c .before .before .before .before .pre in
+    let cents = pre .1 .1 .1 .0 in
+    let most = pre .1 .1 .1 .1 .0 in
+    let begun = pass-starts (pre .0) (λ i. omega (arith, known i)) (omega arith) (pre .1 .0) (pre .1 .1 .0) in
+    (refl, (omega (arith, c .start .ensures .0), rw (c .start .ensures .0) begun))
+
+row-at-requires : tie.Need-row-at-requires Inv-loop μ-loop
+row-at-requires c κs = (passed c .tabled, c .if1 .taken)
+
+to-requires : tie.Need-to-requires Inv-loop μ-loop
+to-requires c κs =
+    let t = c .before .before in
+    let l = t .before .before .loop in
+    let ledger-read = passed t .ledger-read in
+    let posting = pass t .posting in
+    let all = all-accounts t in
+    let lies : ledgerBytes (l .walk .accounts) ≤ length (l .ledger) = rw (all, posting .bytes) (ledger-read .room) in
+    let count = sym (count-kept (passed t) (bytes t) posting) in
+    (all ∙ accounts-are (passed t) ∙ count, (lies, (omega (arith, all, ledger-read .few), l .inv .1 .0)))
 
 account-at-requires : tie.Need-account-at-requires Inv-loop μ-loop
-unfolding ledgerBytes
-account-at-requires c κs = omega arith
+account-at-requires c κs =
+    let to = c .before in
+    let t = to .before .before .before in
+    omega (arith, account-lies (passed t) (found to .within), pass t .posting .bytes)
 
-mul-at : tie.Need-mul-at Inv-loop μ-loop
-mul-at c = omega arith
+raised-requires : tie.Need-raised-requires Inv-loop μ-loop
+raised-requires c κs = search needs
 
-add-at : tie.Need-add-at Inv-loop μ-loop
-add-at c = omega arith
+charged-at-requires : tie.Need-charged-at-requires Inv-loop μ-loop
+charged-at-requires c κs =
+    let t = c .before .before .before .before .before .before .before in
+    (omega (arith, t .if1 .taken, passed t .tabled .rows-few), room t)
 
-meets-requires : tie.Need-meets-requires Inv-loop μ-loop
-meets-requires c κs = search needs
+credit-requires : tie.Need-credit-requires Inv-loop μ-loop
+credit-requires c κs =
+    let t = c .before .before .before .before .before .before .before .before in
+    (t .before .before .before .before .before .before .before .pre .1 .1 .1 .1 .0, bonus c .1)
 
--- a row that meets an account is there
-there : (c : lts.Then1 (layout-word-reads.Asked, layout-word-reads.Learnt, interval-word-reads.Asked, interval-word-reads.Learnt, account-at-reads.Asked, account-at-reads.Learnt, meets-reads.Asked, meets-reads.Learnt, post-row-reads.Asked, post-row-reads.Learnt, write-account-reads.Asked, write-account-reads.Learnt) reads.Pre reads.Post Inv-loop μ-loop)
-    → let l = c .before .before .before .before .before in
-    let f = l .before .before .before .before .before .before .before .args .file .now in
-    (l .loop .i < headerOf f .rowCount) × (eqb (rowAt (rowPart f (l .loop .i)) [] .id) (c .before .before .account-at .result .id) ≡ true)
-there c = meets-row _ _ _ _ (c .before .meets .ensures) (c .if1 .taken)
+write-credit-requires : tie.Need-write-credit-requires Inv-loop μ-loop
+write-credit-requires c κs =
+    let t = c .before .before .before .before .before .before .before .before .before .before in
+    (omega (arith, t .if1 .taken, passed t .tabled .rows-few), room t)
 
-mul-post-row : tie.Need-mul-post-row Inv-loop μ-loop
-mul-post-row c = omega (arith, there (c .before) .0)
-
-add-post-row : tie.Need-add-post-row Inv-loop μ-loop
-add-post-row c = omega (arith, there (c .before) .0)
-
-sub-post-row : tie.Need-sub-post-row Inv-loop μ-loop
-sub-post-row c = omega (arith, there (c .before) .0)
-
-part-post-row-start : tie.Need-part-post-row-start Inv-loop μ-loop
-part-post-row-start c = omega (arith, there (c .before) .0)
-
-part-post-row-end : tie.Need-part-post-row-end Inv-loop μ-loop
-part-post-row-end c = search needs
-
-mul-t27 : tie.Need-mul-t27 Inv-loop μ-loop
-mul-t27 c = omega (arith, there (c .before .before) .0)
-
-add-t28 : tie.Need-add-t28 Inv-loop μ-loop
-add-t28 c = omega (arith, there (c .before .before) .0)
-
-mul-t29 : tie.Need-mul-t29 Inv-loop μ-loop
-mul-t29 c = omega (arith, there (c .before .before) .0)
-
-shared-slice-read-t31 : tie.Need-shared-slice-read-t31 Inv-loop μ-loop
-shared-slice-read-t31 c =
-    let test = c .before .before .before in
-    let start = test .before .before .before .before .before .before .before .before .before .before .before .before in
-    let n = rows-long (start .args .ledger .now) (start .args .file .now) (start .args .rows .now) (start .pre .1 .0) in
-    omega (arith, there test .0, n)
-
-mul-t33 : tie.Need-mul-t33 Inv-loop μ-loop
-mul-t33 c = omega (arith, there (c .before .before .before) .0)
-
-add-t34 : tie.Need-add-t34 Inv-loop μ-loop
-add-t34 c = omega (arith, there (c .before .before .before) .0)
-
-mul-t35 : tie.Need-mul-t35 Inv-loop μ-loop
-mul-t35 c = omega (arith, there (c .before .before .before) .0)
-
-shared-slice-read-t37 : tie.Need-shared-slice-read-t37 Inv-loop μ-loop
-shared-slice-read-t37 c =
-    let test = c .before .before .before .before in
-    let start = test .before .before .before .before .before .before .before .before .before .before .before .before in
-    let n = rows-long (start .args .ledger .now) (start .args .file .now) (start .args .rows .now) (start .pre .1 .0) in
-    omega (arith, there test .0, n)
-
-post-row-requires : tie.Need-post-row-requires Inv-loop μ-loop
-unfolding ledgerBytes
-post-row-requires c κs =
-    let test = c .before .before .before .before in
-    let l = test .before .before .before .before .before in
-    let start = l .before .before .before .before .before .before .before in
-    let f = start .args .file .now in
-    let i = l .loop .i in
-    let inv = l .loop .inv in
-    let on : l .loop .j < accountCount (start .args .ledger .now) = omega (arith, inv .0, test .before .before .before .before .loop-test .taken) in
-    let read = test .before .before .account-at .ensures in
-    let few = start .pre .1 .1 in
-    (omega (arith, on), (omega (arith, part-length f (l .before .word2 .result + 56 * i), there test .0), sums-fit _ f (start .pre .0) (l .loop .ledger) i (l .loop .j) (inv .1 .1 .1) on _ _ _ _ (read .2) (read .3) (few _) (few _)))
-
-add-i : tie.Need-add-i Inv-loop μ-loop
-add-i c = omega (arith, there (c .before .before .before .before .before .before .before) .0)
+added-requires : tie.Need-added-requires Inv-loop μ-loop
+added-requires c κs =
+    let credit = c .before .before .before .before .before in
+    let charge = credit .before in
+    let raise = charge .before .before in
+    let account = raise .before in
+    let to = account .before .before in
+    let row = to .before .before in
+    let t = row .before in
+    let p = passed t in
+    let own = charge-read p (bytes t) (small t) (pass t) (t .if1 .taken) (charge .charged-at .ensures .1) in
+    account-fits p (bytes t) (small t) (pass t) (t .if1 .taken) (credited credit) (found to) own _
+    (row .row-at .ensures) _ _ (account .account-at .ensures) (raise .raised .ensures)
 
 write-account-requires : tie.Need-write-account-requires Inv-loop μ-loop
-unfolding ledgerBytes
-write-account-requires c κs = omega arith
+write-account-requires c κs =
+    let to = c .before .before .before .before .before .before .before .before .before .before .before .before in
+    let t = to .before .before .before in
+    omega (arith, account-lies (passed t) (found to .within), pass t .posting .bytes)
 
-add-j : tie.Need-add-j Inv-loop μ-loop
-add-j c = omega arith
+plus-requires : tie.Need-plus-requires Inv-loop μ-loop
+plus-requires c κs =
+    let credit = c .before .before .before .before .before .before .before .before .before in
+    let t = credit .before .before .before .before .before .before .before .before .before in
+    omega (arith, credits-more (passed t) (bytes t) (small t) (pass t) (t .if1 .taken) (credited credit))
+
+on-requires : tie.Need-on-requires Inv-loop μ-loop
+on-requires c κs =
+    let credit = c .before .before .before .before .before .before .before .before .before .before in
+    let to = credit .before .before .before .before .before .before in
+    let t = to .before .before .before in
+    omega (arith, found to .within, to .to .ensures .1 .0, all-accounts t, accounts-are (passed t))
+
+add-i : tie.Need-add-i Inv-loop μ-loop
+add-i c =
+    let credit = c .before .before .before .before .before .before .before .before .before .before .before in
+    let t = credit .before .before .before .before .before .before .before .before .before in
+    omega (arith, t .if1 .taken, passed t .tabled .rows-few)
 
 loop-less : tie.Need-loop-less Inv-loop μ-loop
-loop-less c = omega arith
+loop-less c =
+    let credit = c .before .before .before .before .before .before .before .before .before .before .before in
+    let t = credit .before .before .before .before .before .before .before .before .before in
+    omega (arith, t .if1 .taken)
 
 loop-again : tie.Need-loop-again Inv-loop μ-loop
-unfolding ledgerBytes
 loop-again c =
-    let l = c .before .before .before .before .before in
-    let start = l .before .before .before .before .before .before .before in
-    let b = start .args .ledger .now in
-    let f = start .args .file .now in
-    let i = l .loop .i in
-    let j = l .loop .j in
-    let inv = l .loop .inv in
-    let on : j < accountCount b = omega (arith, inv .0, c .before .before .before .before .loop-test .taken) in
-    let same = account-is _ _ _ _ _ (c .before .before .account-at .ensures) in
-    let turn : Left b f (c .if1 .ledger) (c .if1 .i) (j + 1)
-    = ⊎-elim
-    (λ w.
-    let row = there (record { before = c .before; if1 = w .0 }) in
-    let charge = charge-at b f (start .args .rows .now) (start .pre .1 .0) i (row .0) in
-    let credit = credit-at b f (start .args .rows .now) (start .pre .1 .0) i (row .0) in
-    turn-with b f (l .loop .ledger) _ i j _ on (start .pre .0 .room) (inv .1 .1 .1) _ same _ _ _ (row-part f i (inv .1 .0)) charge credit (w .8 ∙ w .5 .ensures) (row .0) (row .1) (w .9))
-    (λ w. turn-without b f (l .loop .ledger) _ i j _ on (start .pre .0 .room) (inv .1 .1 .1) _ same (w .5 ∙ w .2 .ensures) (sym (c .before .meets .ensures) ∙ w .0 .left) (w .6))
-    (c .if1 .came) in
-    (inv .0, (inv .1 .0, (omega (arith, inv .0), turn)))
+    let put = c .before .before .before .before in
+    let write = put .before .before .before .before .before in
+    let credit = write .before .before in
+    let charge = credit .before in
+    let raise = charge .before .before in
+    let account = raise .before in
+    let to = account .before .before in
+    let row = to .before .before in
+    let t = row .before in
+    let p = passed t in
+    let own = charge-read p (bytes t) (small t) (pass t) (t .if1 .taken) (charge .charged-at .ensures .1) in
+    let enough = t .before .before .before .before .before .before .before .pre .1 .0 in
+    let step = pass-turn p (bytes t) (small t) (pass t) (t .if1 .taken) (credited credit) (found to) own _
+    (row .row-at .ensures) _ _ (account .account-at .ensures) (raise .raised .ensures) _ (put .before .added .ensures)
+    enough (put .write-account .ensures) (write .write-credit .ensures) (c .before .plus .ensures) in
+    let all = to .to .ensures .1 .0 in
+    let near : c .on .result .account ≤ c .on .result .accounts
+    = omega (arith, c .on .ensures, found to .within, all, all-accounts t, accounts-are p) in
+    (c .on .ensures .1 ∙ all ∙ t .before .before .loop .inv .0, (near, rw (c .on .ensures .0) step))
 
 same-length : tie.Need-same-length Inv-loop μ-loop
-same-length c = search needs
+same-length c = c .before .before .loop .inv .1 .1 .posting .bytes
+
+same-length-2 : tie.Need-same-length-2 Inv-loop μ-loop
+same-length-2 c = c .before .before .loop .inv .1 .1 .crediting .long
 
 returns : tie.Need-returns Inv-loop μ-loop
 returns c =
-    let l = c .before in
-    let start = l .before .before .before .before .before .before .before in
-    left-none (start .args .ledger .now) (start .args .file .now) (start .pre .0) (l .loop .ledger) (l .loop .i) (l .loop .j) (omega arith) (l .loop .inv .1 .1 .1)
+    let known = c .before .before .before .before .before .before .slice-known .given in
+    let pre = c .before .before .before .before .before .before .before .pre in
+    let inv = c .before .before .loop .inv in
+    let all = c .before .before .before .start .ensures in
+    let cents = pre .1 .1 .1 .0 in
+    let most = pre .1 .1 .1 .1 .0 in
+    pass-ends (pre .0) (λ i. omega (arith, known i)) (omega arith) (inv .1 .1) (omega (arith, c .if1 .left))
+    (omega (arith, inv, all, accounts-are (pre .0)))
 
 pub post-rows-spec : {M : Type 1} → statement M
 post-rows-spec =
@@ -173,31 +255,22 @@ post-rows-spec =
     (tie.spec
     Inv-loop
     μ-loop
-    word-requires
-    word-requires-2
+    start-requires
     loop-holds
+    row-at-requires
+    to-requires
     account-at-requires
-    mul-at
-    add-at
-    meets-requires
-    mul-post-row
-    add-post-row
-    sub-post-row
-    part-post-row-start
-    part-post-row-end
-    mul-t27
-    add-t28
-    mul-t29
-    shared-slice-read-t31
-    mul-t33
-    add-t34
-    mul-t35
-    shared-slice-read-t37
-    post-row-requires
-    add-i
+    raised-requires
+    charged-at-requires
+    credit-requires
+    write-credit-requires
+    added-requires
     write-account-requires
-    add-j
+    plus-requires
+    on-requires
+    add-i
     loop-less
     loop-again
     same-length
+    same-length-2
     returns)

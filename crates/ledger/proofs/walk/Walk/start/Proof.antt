@@ -1,0 +1,10 @@
+-- `ledger::walk::Walk::start` meets its contract. At the first of so many accounts.
+use borrow.Author.Needs.{needs}
+use Rattle.ledger.proofs.walk.Walk.start.Statement.{statement}
+use Rattle.ledger.proofs.walk.Walk.start.Tie as tie
+
+returns : tie.Need-returns
+returns c = search needs
+
+pub start-spec : {M : Type 1} → statement M
+start-spec = tie.close (tie.spec returns)

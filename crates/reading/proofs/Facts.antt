@@ -1,0 +1,112 @@
+-- What grounds 1, 3, 7 and 11 leave known of a block and a file once they are ruled out.
+use Prim.Native.Nat.{ℕ, _+_, _≤_, _<_}
+use mathlib.Core.Path.{_≡_, sym, ap, _∙_}
+use mathlib.Core.List.{List, [], _∷_}
+use mathlib.Core.Bool.{false}
+use lib.ListN.{length}
+use native.Mathlib.Omega.{arith}
+use Rattle.words.specs.Grounds.{outside, liesFrom}
+use Rattle.words.proofs.Tests.{facts, not-outside}
+use Rattle.reading.specs.Block.{
+  blockHeaderBytes,
+  mostBlockBytes,
+  blockWords,
+  blockOf,
+  notABlock,
+  idsMisplaced,
+}
+use Rattle.reading.specs.Interval.{
+  headerBytes,
+  mostFileBytes,
+  RowWords,
+  headerOf,
+  rowWordsAt,
+  rowOf,
+  rowsOf,
+  notAFile,
+  tablesMisplaced,
+}
+use Rattle.reading.specs.Values.{termsIn, blockIn, headerIn, BlockRead, Listed, HeaderRead, Tabled}
+use Rattle.reading.specs.declared.block.Block.{Block as BlockValue}
+use Rattle.reading.specs.declared.header.Header.{Header as HeaderValue}
+use Rattle.reading.proofs.Bounds.{length-ids}
+use Rattle.reading.proofs.RowsLeft.{length-rows, rowsLeft, rows-turn, rows-end}
+
+-- a block that ground 1 does not refuse has its five words
+pub block-has-header : (b : List ℕ) → notABlock b ≡ false → blockHeaderBytes ≤ length b
+unfolding notABlock
+block-has-header b e =
+    let range : outside blockHeaderBytes mostBlockBytes (length b) ≡ false = search facts in
+    not-outside blockHeaderBytes mostBlockBytes (length b) range .0
+
+-- a file that ground 7 does not refuse has its ten words
+pub file-has-header : (f : List ℕ) → notAFile f ≡ false → headerBytes ≤ length f
+unfolding notAFile
+file-has-header f e =
+    let range : outside headerBytes mostFileBytes (length f) ≡ false = search facts in
+    not-outside headerBytes mostFileBytes (length f) range .0
+
+-- a value of a block
+module _ {b : List ℕ} {v : BlockValue} where
+  -- that says its words is read from it, where ground 1 does not refuse it
+  pub block-read : notABlock b ≡ false → blockIn v ≡ blockWords b → BlockRead b v
+  block-read e says = record { long = block-has-header b e; says = says }
+
+  -- has the terms that the block states
+  pub terms-of-block : BlockRead b v → termsIn (v .terms) ≡ blockOf b .terms
+  unfolding blockOf blockIn
+  terms-of-block r = ap (λ w. w .terms) (r .says)
+
+  -- and where ground 3 does not refuse the block, the ids lie within it
+  pub listed : BlockRead b v → idsMisplaced b ≡ false → Listed b v
+  unfolding idsMisplaced blockIn outside liesFrom
+  listed r e =
+      let misplaced = rw (← r .says) at e in
+      record { read = r; few = search facts depth 9; ids-lie = search facts depth 9 }
+
+  -- the block has as many ids as the value says
+  pub length-listed : Listed b v → length (blockOf b .ids) ≡ v .ids
+  unfolding blockIn
+  length-listed l = length-ids b ∙ sym (ap (λ w. w .idCount) (l .read .says))
+
+-- a value of a file's header
+module _ {f : List ℕ} {h : HeaderValue} where
+  -- that says its words is read from it, where ground 7 does not refuse the file
+  pub header-read : notAFile f ≡ false → headerIn h ≡ headerOf f → HeaderRead f h
+  header-read e says = record { long = file-has-header f e; says = says }
+
+  -- and where ground 11 does not refuse it, its tables lie within it
+  pub tabled : HeaderRead f h → tablesMisplaced f ≡ false → Tabled f h
+  unfolding tablesMisplaced headerIn outside liesFrom
+  tabled r e =
+      let misplaced = rw (← r .says) at e in
+      record {
+        read = r;
+        rows-few = search facts depth 9;
+        points-few = search facts depth 9;
+        rows-lie = search facts depth 9;
+        points-lie = search facts depth 9;
+      }
+
+  -- has the file's number of rows
+  pub row-count : HeaderRead f h → h .rows ≡ headerOf f .rowCount
+  unfolding headerIn
+  row-count r = ap (λ h. h .rowCount) (r .says)
+
+  -- and of points
+  pub point-count : HeaderRead f h → h .points ≡ headerOf f .pointCount
+  unfolding headerIn
+  point-count r = ap (λ h. h .pointCount) (r .says)
+
+  -- below the number of rows, the rows from i on are the one that is read there and those from i + 1 on
+  pub next-row : HeaderRead f h → (i : ℕ) {w : RowWords} → i < h .rows → w ≡ rowWordsAt f i
+      → rowsLeft f i ≡ rowOf f w ∷ rowsLeft f (i + 1)
+  next-row r i below e = rw e (rows-turn f i (omega (arith, row-count r)))
+
+  -- from there on none is left
+  pub no-row : HeaderRead f h → (i : ℕ) → h .rows ≤ i → rowsLeft f i ≡ []
+  no-row r i beyond = rows-end f i (omega (arith, row-count r))
+
+  -- the file has as many rows as the value says
+  pub length-tabled : Tabled f h → length (rowsOf f) ≡ h .rows
+  length-tabled t = length-rows f ∙ sym (row-count (t .read))

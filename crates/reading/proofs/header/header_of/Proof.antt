@@ -1,0 +1,78 @@
+-- `reading::header::header_of` meets its contract. Each word is the number at its place.
+use borrow.Author.Needs.{needs}
+use Rattle.words.specs.Words.{word32}
+use Rattle.reading.specs.Interval.{headerOf}
+use Rattle.reading.specs.Values.{termsIn, headerIn}
+use Rattle.reading.proofs.Parts.{signed-field}
+use Rattle.reading.proofs.header.header_of.Statement.{statement}
+use Rattle.reading.proofs.header.header_of.Tie as tie
+
+number32-requires : tie.Need-number32-requires
+number32-requires c κs = search needs
+
+number32-requires-2 : tie.Need-number32-requires-2
+number32-requires-2 c κs = search needs
+
+number32-requires-3 : tie.Need-number32-requires-3
+number32-requires-3 c κs = search needs
+
+number32-requires-4 : tie.Need-number32-requires-4
+number32-requires-4 c κs = search needs
+
+number32-requires-5 : tie.Need-number32-requires-5
+number32-requires-5 c κs = search needs
+
+number32-requires-6 : tie.Need-number32-requires-6
+number32-requires-6 c κs = search needs
+
+signed-requires : tie.Need-signed-requires
+signed-requires c κs = search needs
+
+number32-requires-7 : tie.Need-number32-requires-7
+number32-requires-7 c κs = search needs
+
+number32-requires-8 : tie.Need-number32-requires-8
+number32-requires-8 c κs = search needs
+
+number32-requires-9 : tie.Need-number32-requires-9
+number32-requires-9 c κs = search needs
+
+number32-requires-10 : tie.Need-number32-requires-10
+number32-requires-10 c κs = search needs
+
+returns : tie.Need-returns
+unfolding termsIn headerIn headerOf word32
+returns c =
+    let w6 = c .before .before .before .before .before in
+    let w5 = w6 .before in
+    let w2 = w5 .before .before .before in
+    let imports = c .before .before .before .before .signed in
+    let sixth = signed-field (imports .result) (imports .ensures .0) (imports .ensures .1) (w6 .number326 .ensures .0) in
+    λ x. record {
+      format = w5 .before .before .number323 .ensures .0 x;
+      interval = w5 .before .number324 .ensures .0 x;
+      terms = record { netCone = w2 .before .number32 .ensures .0 x; days = w2 .number322 .ensures .0 x };
+      regionWide = w5 .number325 .ensures .0 x;
+      imports = sixth x;
+      rowCount = c .before .before .before .number327 .ensures .0 x;
+      rowsOffset = c .before .before .number328 .ensures .0 x;
+      pointCount = c .before .number329 .ensures .0 x;
+      pointsOffset = c .number3210 .ensures .0 x;
+    }
+
+pub header-of-spec : {M : Type 1} → statement M
+header-of-spec =
+    tie.close
+    (tie.spec
+    number32-requires
+    number32-requires-2
+    number32-requires-3
+    number32-requires-4
+    number32-requires-5
+    number32-requires-6
+    signed-requires
+    number32-requires-7
+    number32-requires-8
+    number32-requires-9
+    number32-requires-10
+    returns)
