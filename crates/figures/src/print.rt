@@ -17,17 +17,6 @@ pub fn figure(label: &[u8], v: u64)
     print(&line, end);
 }
 
-// Prints a test: 1 if it holds, else 0.
-pub fn test(label: &[u8], holds: bool)
-    requires { ⌜ length (now label) ≤ 64 ⌝ }
-{
-    if holds {
-        figure(label, 1);
-        return;
-    }
-    figure(label, 0);
-}
-
 // Prints up to eight words of a ledger, a result or a part of one.
 pub fn words(label: &[u8], b: &[u8], n: usize)
     requires { ⌜ length (now label) ≤ 64 ⌝ }

@@ -13,7 +13,7 @@ use crate::cases::show_in;
 use crate::document::show_charged;
 use crate::document::show_short;
 use figures::document::CURVE_12;
-ghost use Prim.Native.Nat.{_≤_};
+ghost use Prim.Native.Nat.{_≤_, _<_};
 ghost use lib.ListN.{length};
 
 // A row that could run for 1000 MW and was scheduled below what it gave, and one that makes the ratio 700000.
@@ -217,39 +217,35 @@ pub fn limits() {
     );
 }
 
+// Prints a word of the row that was scheduled below what it gave.
+fn show_below(label: &[u8], word: usize)
+    requires { ⌜ length (now label) ≤ 64 ⌝ }
+    requires { ⌜ word < 8 ⌝ }
+{
+    let head = header(30000, 365, 2, 3);
+    show(label, head, &SCHEDULED_BELOW, &SCHEDULED_POINTS, 0, word);
+}
+
+// Prints a word of the solar row.
+fn show_solar(label: &[u8], word: usize)
+    requires { ⌜ length (now label) ≤ 64 ⌝ }
+    requires { ⌜ word < 8 ⌝ }
+{
+    show(
+        label,
+        header(30000, 365, 2, 1),
+        &SOLAR,
+        &SOLAR_POINT,
+        0,
+        word,
+    );
+}
+
 pub fn rows() {
-    show(
-        b"summary, row scheduled below, economic: ",
-        header(30000, 365, 2, 3),
-        &SCHEDULED_BELOW,
-        &SCHEDULED_POINTS,
-        0,
-        ECONOMIC,
-    );
-    show(
-        b"summary, row scheduled below, shortfall: ",
-        header(30000, 365, 2, 3),
-        &SCHEDULED_BELOW,
-        &SCHEDULED_POINTS,
-        0,
-        SHORTFALL,
-    );
-    show(
-        b"summary, solar row, economic: ",
-        header(30000, 365, 2, 1),
-        &SOLAR,
-        &SOLAR_POINT,
-        0,
-        ECONOMIC,
-    );
-    show(
-        b"summary, solar row, charge: ",
-        header(30000, 365, 2, 1),
-        &SOLAR,
-        &SOLAR_POINT,
-        0,
-        CHARGE,
-    );
+    show_below(b"summary, row scheduled below, economic: ", ECONOMIC);
+    show_below(b"summary, row scheduled below, shortfall: ", SHORTFALL);
+    show_solar(b"summary, solar row, economic: ", ECONOMIC);
+    show_solar(b"summary, solar row, charge: ", CHARGE);
 }
 
 // Prints the scheduled kW of a row on the curve of the listing's row 12, from 1000 to 6000 cents, as its bonus.

@@ -6,6 +6,9 @@ use Rattle.settling.proofs.Computing.{computing}
 use Rattle.figures.proofs.document.file.Statement.{statement}
 use Rattle.figures.proofs.document.file.Tie as tie
 
+array-write-words : tie.Need-array-write-words
+array-write-words c = search needs
+
 slice-aggregate-store32 : tie.Need-slice-aggregate-store32
 slice-aggregate-store32 c = search needs
 
@@ -22,4 +25,4 @@ returns c = c .before .store32 .ensures
 pub file-spec : {M : Type 1} → statement M
 file-spec =
     tie.close
-    (tie.spec slice-aggregate-store32 slice-aggregate-store32-2 store32-requires returns)
+    (tie.spec array-write-words slice-aggregate-store32 slice-aggregate-store32-2 store32-requires returns)
