@@ -3,10 +3,11 @@
 use figures::print::words;
 ghost use Prim.Native.Nat.{_≤_};
 ghost use lib.ListN.{length};
+ghost use Rattle.figures.specs.Room.{listingLedgerBytes, listingResultBytes};
 
 // Prints a ledger of four accounts, and the word beyond them.
 pub fn ledger_words(ledger: &[u8])
-    requires { ⌜ 200 ≤ length (now ledger) ⌝ }
+    requires { ⌜ listingLedgerBytes ≤ length (now ledger) ⌝ }
 {
     words(b"01 ledger: ", ledger, 8);
     words(b"01 account: ", &ledger[64..], 4);
@@ -18,7 +19,7 @@ pub fn ledger_words(ledger: &[u8])
 
 // Prints a result of four rows.
 pub fn result_words(result: &[u8])
-    requires { ⌜ 320 ≤ length (now result) ⌝ }
+    requires { ⌜ listingResultBytes ≤ length (now result) ⌝ }
 {
     words(b"01 result: ", result, 8);
     words(b"01 row: ", &result[64..], 8);

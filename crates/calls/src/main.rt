@@ -13,12 +13,13 @@ use npa::npa_settle;
 ghost use mathlib.Core.Path.{_≡_};
 ghost use Prim.Native.Nat.{_≤_};
 ghost use lib.ListN.{length};
+ghost use Rattle.figures.specs.Room.{labelRoom, listingLedgerBytes};
 ghost use Rattle.settling.specs.Settling.{settling};
 ghost use Rattle.settling.specs.Figures.{listingFile};
 
 // Settles the listing's file at an interval, and prints the answer.
 fn settle(label: &[u8], ledger: &mut [u8], interval: u64, result: &mut [u8])
-    requires { ⌜ length (now label) ≤ 64 ⌝ }
+    requires { ⌜ length (now label) ≤ labelRoom ⌝ }
     ensures { λ _. ⌜ now (ledger .exit) ≡ settling (now (ledger .entry)) (listingFile interval 0 0) (now (result .entry)) .ledger ⌝ }
     ensures { λ _. ⌜ now (result .exit) ≡ settling (now (ledger .entry)) (listingFile interval 0 0) (now (result .entry)) .result ⌝ }
 {
@@ -27,7 +28,7 @@ fn settle(label: &[u8], ledger: &mut [u8], interval: u64, result: &mut [u8])
 
 // The listing: a result buffer a byte too short for its four rows is refused, one that just holds them is not.
 fn listing(ledger: &mut [u8])
-    requires { ⌜ 200 ≤ length (now ledger) ⌝ }
+    requires { ⌜ listingLedgerBytes ≤ length (now ledger) ⌝ }
 {
     let mut short = [255u8; 319];
     settle(

@@ -35,6 +35,10 @@ resultHeaderBytes = 64
 abbrev pub resultRowBytes : ℕ
 resultRowBytes = 64
 
+-- bytes of a row before its credit: 7 words of 8 bytes
+abbrev pub creditOffset : ℕ
+creditOffset = 56
+
 -- bytes of a result of so many rows, and so where the words of the next row begin
 unfoldable pub resultBytes : ℕ → ℕ
 resultBytes n = resultHeaderBytes + resultRowBytes * n

@@ -18,7 +18,7 @@ ghost use Rattle.words.specs.Words.{word64, written, writtenAt};
 ghost use Rattle.reading.specs.Interval.{mostRows};
 ghost use Rattle.assessment.specs.Assessment.{printedRatio};
 ghost use Rattle.assessment.specs.Values.{mostNumerator, ratioIn};
-ghost use Rattle.settling.specs.Settling.{resultHeaderBytes, resultBytes};
+ghost use Rattle.settling.specs.Settling.{resultHeaderBytes, creditOffset, resultBytes};
 
 const SUMMARY_BYTES: usize = 64;
 
@@ -104,7 +104,7 @@ pub fn charged_at(result: &[u8], i: usize) -> Charged
 pub fn write_credit(result: &mut [u8], i: usize, credit: Cents)
     requires { ⌜ i < mostRows ⌝ }
     requires { ⌜ resultBytes (i + 1) ≤ length (now result) ⌝ }
-    ensures { λ _. ⌜ now (result .exit) ≡ writtenAt (resultBytes i + 56) (credit .0 ∷ []) (now (result .entry)) ⌝ }
+    ensures { λ _. ⌜ now (result .exit) ≡ writtenAt (resultBytes i + creditOffset) (credit .0 ∷ []) (now (result .entry)) ⌝ }
 {
     put64(result, SUMMARY_BYTES + RESULT_ROW_BYTES * i + 56, credit.0);
 }

@@ -11,6 +11,7 @@ use words::store64;
 ghost use mathlib.Core.Path.{_≡_};
 ghost use Prim.Native.Nat.{_≤_, _<_};
 ghost use lib.ListN.{length};
+ghost use Rattle.figures.specs.Room.{caseFileBytes, casePointWords, caseRowWords, labelRoom};
 
 // Words of a row in the result.
 pub const ACTUAL: usize = 1;
@@ -71,9 +72,9 @@ pub fn charged(cone: u64, days: u64, largest: u64, cents: u64) -> [u8; 160] {
 
 // Writes a header, up to three rows after it, and up to ten points after room for three rows.
 fn put_file(file: &mut [u8], header: Header, rows: &[u64], points: &[u64])
-    requires { ⌜ length (now file) ≡ 288 ⌝ }
-    requires { ⌜ length (now rows) ≤ 42 ⌝ }
-    requires { ⌜ length (now points) ≤ 20 ⌝ }
+    requires { ⌜ length (now file) ≡ caseFileBytes ⌝ }
+    requires { ⌜ length (now rows) ≤ caseRowWords ⌝ }
+    requires { ⌜ length (now points) ≤ casePointWords ⌝ }
 {
     store32(&header, file);
     store32(rows, &mut file[40..]);
@@ -82,8 +83,8 @@ fn put_file(file: &mut [u8], header: Header, rows: &[u64], points: &[u64])
 
 // The bytes of such a file.
 fn file_of(header: Header, rows: &[u64], points: &[u64]) -> [u8; 288]
-    requires { ⌜ length (now rows) ≤ 42 ⌝ }
-    requires { ⌜ length (now points) ≤ 20 ⌝ }
+    requires { ⌜ length (now rows) ≤ caseRowWords ⌝ }
+    requires { ⌜ length (now points) ≤ casePointWords ⌝ }
 {
     let mut file = [0u8; 288];
     put_file(&mut file, header, rows, points);
@@ -92,8 +93,8 @@ fn file_of(header: Header, rows: &[u64], points: &[u64]) -> [u8; 288]
 
 // Prints what settling a file into a ledger answers.
 pub fn show_ground(label: &[u8], ledger: [u8; 160], header: Header, rows: &[u64])
-    requires { ⌜ length (now label) ≤ 64 ⌝ }
-    requires { ⌜ length (now rows) ≤ 42 ⌝ }
+    requires { ⌜ length (now label) ≤ labelRoom ⌝ }
+    requires { ⌜ length (now rows) ≤ caseRowWords ⌝ }
 {
     let mut books = ledger;
     let mut result = [255u8; 256];
@@ -111,9 +112,9 @@ pub fn show_in(
     row: usize,
     word: usize,
 )
-    requires { ⌜ length (now label) ≤ 64 ⌝ }
-    requires { ⌜ length (now rows) ≤ 42 ⌝ }
-    requires { ⌜ length (now points) ≤ 20 ⌝ }
+    requires { ⌜ length (now label) ≤ labelRoom ⌝ }
+    requires { ⌜ length (now rows) ≤ caseRowWords ⌝ }
+    requires { ⌜ length (now points) ≤ casePointWords ⌝ }
     requires { ⌜ row < 3 ⌝ }
     requires { ⌜ word < 8 ⌝ }
 {
@@ -125,9 +126,9 @@ pub fn show_in(
 
 // The same of a ledger that was opened on the header's terms.
 pub fn show(label: &[u8], header: Header, rows: &[u64], points: &[u64], row: usize, word: usize)
-    requires { ⌜ length (now label) ≤ 64 ⌝ }
-    requires { ⌜ length (now rows) ≤ 42 ⌝ }
-    requires { ⌜ length (now points) ≤ 20 ⌝ }
+    requires { ⌜ length (now label) ≤ labelRoom ⌝ }
+    requires { ⌜ length (now rows) ≤ caseRowWords ⌝ }
+    requires { ⌜ length (now points) ≤ casePointWords ⌝ }
     requires { ⌜ row < 3 ⌝ }
     requires { ⌜ word < 8 ⌝ }
 {
@@ -137,8 +138,8 @@ pub fn show(label: &[u8], header: Header, rows: &[u64], points: &[u64], row: usi
 
 // Prints the cents carried after settling a file into a ledger.
 pub fn show_carried(label: &[u8], ledger: [u8; 160], header: Header, rows: &[u64])
-    requires { ⌜ length (now label) ≤ 64 ⌝ }
-    requires { ⌜ length (now rows) ≤ 42 ⌝ }
+    requires { ⌜ length (now label) ≤ labelRoom ⌝ }
+    requires { ⌜ length (now rows) ≤ caseRowWords ⌝ }
 {
     let mut books = ledger;
     let mut result = [255u8; 256];

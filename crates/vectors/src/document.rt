@@ -14,6 +14,7 @@ use figures::document::CURVE_11;
 use figures::layout::Row;
 ghost use Prim.Native.Nat.{_≤_};
 ghost use lib.ListN.{length};
+ghost use Rattle.figures.specs.Room.{labelRoom};
 
 // Prices of -300 and -293, in two's complement.
 const BELOW_ZERO: [u64; 4] = [0x1_0000_0000 - 300, 0, 0x1_0000_0000 - 293, 10];
@@ -52,7 +53,7 @@ pub fn short(id: u64, committed: u64) -> Row {
 
 // Prints the scheduled kW of a row on curve A.
 fn show_on_a(label: &[u8], online: u64, lmp: u64)
-    requires { ⌜ length (now label) ≤ 64 ⌝ }
+    requires { ⌜ length (now label) ≤ labelRoom ⌝ }
 {
     let row = on_a(online, lmp);
     show(label, header(30000, 365, 1, 2), &row, &CURVE_11, 0, BONUS);
@@ -60,7 +61,7 @@ fn show_on_a(label: &[u8], online: u64, lmp: u64)
 
 // Prints 1 if a PRD row is considered, else 0.
 fn show_prd(label: &[u8], lmp: u64)
-    requires { ⌜ length (now label) ≤ 64 ⌝ }
+    requires { ⌜ length (now label) ≤ labelRoom ⌝ }
 {
     let row = prd(lmp);
     show(label, header(30000, 365, 1, 2), &row, &PRD, 0, ACTUAL);
@@ -102,7 +103,7 @@ pub fn curves() {
 
 // Prints the charge for a shortfall, which no limit cuts.
 pub fn show_short(label: &[u8], cone: u64, days: u64, kw: u64)
-    requires { ⌜ length (now label) ≤ 64 ⌝ }
+    requires { ⌜ length (now label) ≤ labelRoom ⌝ }
 {
     let row = short(1, kw);
     show(label, header(cone, days, 1, 0), &row, &[], 0, CHARGE);
@@ -110,7 +111,7 @@ pub fn show_short(label: &[u8], cone: u64, days: u64, kw: u64)
 
 // Prints whether a ledger whose plant 1 is charged so much on a commitment is one, 0 if it is: the limit is the most that is.
 pub fn show_charged(label: &[u8], cone: u64, days: u64, kw: u64, cents: u64)
-    requires { ⌜ length (now label) ≤ 64 ⌝ }
+    requires { ⌜ length (now label) ≤ labelRoom ⌝ }
 {
     let row = short(2, 0);
     let ledger = charged(cone, days, kw, cents);

@@ -15,6 +15,7 @@ use crate::document::show_short;
 use figures::document::CURVE_12;
 ghost use Prim.Native.Nat.{_≤_, _<_};
 ghost use lib.ListN.{length};
+ghost use Rattle.figures.specs.Room.{labelRoom};
 
 // A row that could run for 1000 MW and was scheduled below what it gave, and one that makes the ratio 700000.
 const SCHEDULED_BELOW: [u64; 28] = [
@@ -219,7 +220,7 @@ pub fn limits() {
 
 // Prints a word of the row that was scheduled below what it gave.
 fn show_below(label: &[u8], word: usize)
-    requires { ⌜ length (now label) ≤ 64 ⌝ }
+    requires { ⌜ length (now label) ≤ labelRoom ⌝ }
     requires { ⌜ word < 8 ⌝ }
 {
     let head = header(30000, 365, 2, 3);
@@ -228,7 +229,7 @@ fn show_below(label: &[u8], word: usize)
 
 // Prints a word of the solar row.
 fn show_solar(label: &[u8], word: usize)
-    requires { ⌜ length (now label) ≤ 64 ⌝ }
+    requires { ⌜ length (now label) ≤ labelRoom ⌝ }
     requires { ⌜ word < 8 ⌝ }
 {
     show(
@@ -250,7 +251,7 @@ pub fn rows() {
 
 // Prints the scheduled kW of a row on the curve of the listing's row 12, from 1000 to 6000 cents, as its bonus.
 fn show_on_12(label: &[u8], online: u64, lmp: u64)
-    requires { ⌜ length (now label) ≤ 64 ⌝ }
+    requires { ⌜ length (now label) ≤ labelRoom ⌝ }
 {
     let row = [
         1,
@@ -279,7 +280,7 @@ pub fn curve_ends() {
 
 // Prints what is answered to a row at an interval and an LMP of a year of 366 days.
 fn show_taken(label: &[u8], interval: u64, lmp: u64)
-    requires { ⌜ length (now label) ≤ 64 ⌝ }
+    requires { ⌜ length (now label) ≤ labelRoom ⌝ }
 {
     let row = [1, 0, 0, 0, 0, 0, 0, 0, 0, 0, 0, lmp, 0, 0];
     let head = [1, interval, 27955, 366, 0, 0, 1, 40, 0, 208];
