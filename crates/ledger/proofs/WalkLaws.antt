@@ -1,5 +1,5 @@
 -- Where a walk down rising ids finds each of some ids: the laws of the passes that walk rows and accounts side by side.
-use Prim.Native.Nat.{ℕ, zero, suc, _+_, _≤_, _<_}
+use Prim.Native.Nat.{ℕ, zero, suc, _+_, _-_, _≤_, _<_}
 use mathlib.Core.Path.{_≡_, refl, sym, ap, ap₂, _∙_}
 use mathlib.Core.List.{List, [], _∷_, map}
 use mathlib.Core.Bool.{Bool, true, false, not, cond, _||_, _&&_, or-true}
@@ -13,6 +13,7 @@ use Rattle.words.proofs.Tests.{first-holds, second-holds}
 use Rattle.words.proofs.Lists.{found-member, rises-next, rises-rest, member-above, not-among}
 use Rattle.assessment.specs.Assessment.{Account, accountOf}
 use Rattle.ledger.specs.Values.{before}
+use Rattle.ledger.specs.Walk.{comparisons, passComparisons, BudgetSuffices}
 
 -- whether a walk down xs finds each of some ids, each behind the one before it
 unfoldable pub findsAll : List ℕ → List ℕ → Bool
@@ -74,6 +75,76 @@ module _ (id : ℕ) (xs : List ℕ) (j : ℕ) where
   pub walk-ends : drop j xs ≡ [] → before id (drop j xs) ≡ 0
   unfolding before
   walk-ends none = ap (before id) none
+
+-- comparisons at place j
+module _ (id : ℕ) (xs : List ℕ) (j : ℕ) where
+  -- where the id stands there, one is made
+  pub one-comparison : {x : ℕ} {rest : List ℕ} → drop j xs ≡ x ∷ rest → x ≡ id → comparisons id (drop j xs) ≡ 1
+  unfolding comparisons
+  one-comparison {x} turn e = ap (comparisons id) turn ∙ rw (eq-eqb x id e)
+
+  -- where another does, one is made, and those from the next place on
+  pub comparison-more : {x : ℕ} → drop j xs ≡ x ∷ drop (j + 1) xs → (x ≡ id → ⊥)
+      → comparisons id (drop j xs) ≡ 1 + comparisons id (drop (j + 1) xs)
+  unfolding comparisons
+  comparison-more {x} turn other = ap (comparisons id) turn ∙ rw (ne-eqb x id other) (omega arith)
+
+  -- where one is left, one is made at least
+  pub some-comparison : {x : ℕ} {rest : List ℕ} → drop j xs ≡ x ∷ rest → 1 ≤ comparisons id (drop j xs)
+  unfolding comparisons
+  some-comparison {x} {rest} turn = rw turn (omega arith)
+
+  -- where none is left, none is made
+  pub no-comparison : drop j xs ≡ [] → comparisons id (drop j xs) ≡ 0
+  unfolding comparisons
+  no-comparison none = ap (comparisons id) none
+
+-- the comparisons that find an id, and the ids behind the one found, are no more than all of them
+comparisons-le : (id : ℕ) (xs : List ℕ) → comparisons id xs + length (drop (suc (before id xs)) xs) ≤ length xs
+unfolding comparisons before
+comparisons-le id [] = omega arith
+comparisons-le id (x ∷ xs) = by (eqb x id) (comparisons-le id xs)
+  where
+    by : (t : Bool) → comparisons id xs + length (drop (suc (before id xs)) xs) ≤ length xs
+        → suc (cond t 0 (comparisons id xs)) + length (drop (suc (cond t 0 (suc (before id xs)))) (x ∷ xs)) ≤ suc (length xs)
+    by true below = omega arith
+    by false below = omega arith
+
+-- a pass makes no more comparisons than there are accounts
+pub pass-le : (ids xs : List ℕ) → passComparisons ids xs ≤ length xs
+unfolding passComparisons
+pass-le [] xs = omega arith
+pass-le (id ∷ ids) xs = omega (arith, comparisons-le id xs, pass-le ids (drop (suc (before id xs)) xs))
+
+-- so a budget of as many as there are rows and accounts together is never used up before a pass ends
+pub budget-suffices : BudgetSuffices
+unfolding BudgetSuffices
+budget-suffices rows accounts = omega (arith, pass-le rows accounts)
+
+-- a pass over all ids beside xs: the comparisons left of the budget, where some of the ids are left, and the accounts from j on
+unfoldable pub BudgetAt : (all xs left : List ℕ) (j budget : ℕ) → Type 0
+BudgetAt all xs left j budget = budget + passComparisons all xs ≡ length all + length xs + passComparisons left (drop j xs)
+
+-- a pass begins with as many as there are ids and accounts together
+pub budget-starts : (all xs : List ℕ) (budget : ℕ) → budget ≡ length all + length xs → BudgetAt all xs all 0 budget
+unfolding BudgetAt
+budget-starts all xs budget e = omega (arith, e)
+
+-- what the next id takes is left of the budget, since the budget of the whole pass suffices
+pub budget-enough : (all xs : List ℕ) (id : ℕ) (left : List ℕ) (j budget : ℕ) → BudgetAt all xs (id ∷ left) j budget
+    → comparisons id (drop j xs) ≤ budget
+unfolding BudgetAt passComparisons BudgetSuffices
+budget-enough all xs id left j budget at = omega (arith, at, budget-suffices all xs)
+
+-- and after it the rest of the budget is left for the others, from behind the account found on
+pub budget-turn : (all xs : List ℕ) (id : ℕ) (left : List ℕ) (j budget k spent : ℕ) → BudgetAt all xs (id ∷ left) j budget
+    → k ≡ j + before id (drop j xs) → spent ≡ budget - comparisons id (drop j xs) → BudgetAt all xs left (k + 1) spent
+unfolding BudgetAt passComparisons
+budget-turn all xs id left j budget k spent at place is =
+    let next : j + suc (before id (drop j xs)) ≡ k + 1 = omega (arith, place) in
+    let rest : passComparisons left (drop (suc (before id (drop j xs))) (drop j xs)) ≡ passComparisons left (drop (k + 1) xs)
+    = ap (passComparisons left) (drop-drop (suc (before id (drop j xs))) j xs ∙ ap (λ n. drop n xs) next) in
+    omega (arith, at, is, rest, budget-enough all xs id left j budget at)
 
 -- an id is among others just where a walk down them finds it
 pub found-is : (id : ℕ) (xs : List ℕ) → any (λ x. eqb x id) xs ≡ ltb (before id xs) (length xs)

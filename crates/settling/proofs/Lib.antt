@@ -7,6 +7,7 @@ pub mod SettlingEnds
 pub mod IdTests
 pub mod ResultLaws
 pub mod Impostors
+pub mod BudgetLaws
 pub mod Turns
 pub mod Kept
 pub mod SettledLaws

@@ -43,7 +43,7 @@ pub fn charge_rows(
     let terms = s.terms;
     let mut charges = Cents(0);
     let mut bonus = Kilowatts(0);
-    let mut walk = Walk::start(s);
+    let mut walk = Walk::start(h.rows, s);
     let mut i = 0;
     while i < h.rows {
         let row = row_at(file, h, i);

@@ -35,7 +35,7 @@ fn row_ids_unknown(ledger: &[u8], s: Standing, file: &[u8], h: Header) -> bool
     requires { ⌜ Tabled (now file) h ⌝ }
     ensures { λ r. ⌜ r ≡ rowIdsUnknown (ledgerOf (now (ledger .entry))) (rowsOf (now (file .entry))) ⌝ }
 {
-    let mut walk = Walk::start(s);
+    let mut walk = Walk::start(h.rows, s);
     let mut i = 0;
     while i < h.rows {
         walk = walk.to(ledger, row_at(file, h, i).id);

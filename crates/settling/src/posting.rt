@@ -45,7 +45,7 @@ pub fn post_rows(
         ⌜ now (result .exit) ≡ writtenAt resultHeaderBytes (rowsWords (credit v) (v .rows)) (now (result .entry)) ⌝ }
 {
     let mut credits = Cents(0);
-    let mut walk = Walk::start(s);
+    let mut walk = Walk::start(h.rows, s);
     let mut i = 0;
     while i < h.rows {
         let row = row_at(file, h, i);

@@ -1,11 +1,13 @@
 -- `settling::charging::charge_rows`: what is left to add and to write is that of the rows from i on, each found by the
 -- walk from its account on.
-use Prim.Native.Nat.{_-_, _≤_}
-use mathlib.Core.Path.{_≡_, refl, _∙_}
+use Prim.Native.Nat.{_+_, _-_, _≤_}
+use mathlib.Core.Path.{_≡_, refl, sym, subst, _∙_}
 use native.Mathlib.Omega.{arith}
 use borrow.Author.Needs.{needs}
+use Rattle.reading.specs.Values.{rowIn}
 use Rattle.reading.proofs.SoundRows.{sound-row}
 use Rattle.settling.specs.Values.{Passed}
+use Rattle.settling.proofs.BudgetLaws.{Budget, budget-begins, row-enough, row-spends}
 use Rattle.settling.proofs.Turns.{Walks, Found, walk-starts, walk-finds, accounts-are, account-lies}
 use Rattle.settling.proofs.ChargingLaws.{
   Charging,
@@ -24,7 +26,8 @@ abbrev Inv-loop : tie.InvT-loop
 Inv-loop ledger file h ratio result₀ terms charges₀ bonus₀ walk₀ i₀ result charges bonus walk i =
     (walk .accounts ≡ walk₀ .accounts)
     × ((walk .account ≤ walk .accounts)
-    × (Walks ledger file i (walk .account) × Charging ledger file result₀ result (charges .0) (bonus .0) i))
+    × (Walks ledger file i (walk .account)
+    × (Charging ledger file result₀ result (charges .0) (bonus .0) i × Budget ledger file i (walk .account) (walk .budget))))
 
 abbrev μ-loop : tie.MeasureT-loop
 μ-loop ledger file h ratio result₀ terms charges₀ bonus₀ walk₀ i₀ result charges bonus walk i = h .rows - i
@@ -39,7 +42,7 @@ passed t = t .before .before .before .before .before .before .before .before .pr
 all-accounts : (t : tie.Then1 Inv-loop μ-loop)
     → let start = t .before .before .before .before .before .before .before .before in
     t .before .before .loop .walk .accounts ≡ start .args .s .accounts
-all-accounts t = t .before .before .loop .inv .0 ∙ t .before .before .before .start .ensures .1
+all-accounts t = t .before .before .loop .inv .0 ∙ t .before .before .before .start .ensures .1 .0
 
 -- it finds the row's account
 found : (c : tie.After-to Inv-loop μ-loop)
@@ -68,24 +71,35 @@ turn c =
     _ _ (account .account-at .ensures) (c .raised .ensures)
 
 start-requires : tie.Need-start-requires Inv-loop μ-loop
-start-requires c κs = search needs
+start-requires c κs =
+    let p = c .before .before .before .before .pre .0 in
+    (p .tabled .rows-few, p .ledger-read .few)
 
 loop-holds : tie.Need-loop-holds Inv-loop μ-loop
 loop-holds c =
     let first = c .start .ensures .0 in
-    let walks = walk-starts (c .before .before .before .before .before .pre .0) in
-    (refl, (omega arith, (rw first walks, charging-starts _ _ _)))
+    let start = c .before .before .before .before .before in
+    let p = start .pre .0 in
+    let budget =
+    budget-begins (start .args .ledger .now) (start .args .file .now) (p .tabled .read) (c .start .result .budget) (c .start .result .account)
+    (omega (arith, c .start .ensures .1 .1, accounts-are p)) first in
+    (refl, (omega arith, (rw first (walk-starts p), (charging-starts _ _ _, budget))))
 
 row-at-requires : tie.Need-row-at-requires Inv-loop μ-loop
 row-at-requires c κs = search needs
 
 to-requires : tie.Need-to-requires Inv-loop μ-loop
+unfolding rowIn
 to-requires c κs =
     let t = c .before in
     let ledger-read = passed t .ledger-read in
     let all = all-accounts t in
     let inv = t .before .before .loop .inv in
-    (all ∙ accounts-are (passed t), (rw all (ledger-read .room), (omega (arith, all, ledger-read .few), inv .1 .0)))
+    let start = t .before .before .before .before .before .before .before .before in
+    let enough =
+    row-enough (start .args .ledger .now) (start .args .file .now) (passed t .tabled .read) (t .before .before .loop .i)
+    (t .before .before .loop .walk .account) (t .before .before .loop .walk .budget) (inv .1 .1 .1 .1) (t .if1 .taken) (c .row-at .ensures) refl in
+    (all ∙ accounts-are (passed t), (rw all (ledger-read .room), (omega (arith, all, ledger-read .few), (inv .1 .0, enough))))
 
 row-figures-requires : tie.Need-row-figures-requires Inv-loop μ-loop
 row-figures-requires c κs =
@@ -116,14 +130,14 @@ plus-requires : tie.Need-plus-requires Inv-loop μ-loop
 plus-requires c κs =
     let charge = c .before .before .before .before in
     let t = charge .before .before .before .before .before .before in
-    let sums = t .before .before .loop .inv .1 .1 .1 in
+    let sums = t .before .before .loop .inv .1 .1 .1 .0 in
     charges-more (passed t) (turn (charge .before)) (charge .charge .ensures) sums
 
 plus-requires-2 : tie.Need-plus-requires-2 Inv-loop μ-loop
 plus-requires-2 c κs =
     let charge = c .before .before .before .before .before in
     let t = charge .before .before .before .before .before .before in
-    let sums = t .before .before .loop .inv .1 .1 .1 in
+    let sums = t .before .before .loop .inv .1 .1 .1 .0 in
     bonus-more (passed t) (turn (charge .before)) (charge .charge .ensures) sums
 
 on-requires : tie.Need-on-requires Inv-loop μ-loop
@@ -145,6 +159,7 @@ loop-less c =
     omega (arith, t .if1 .taken)
 
 loop-again : tie.Need-loop-again Inv-loop μ-loop
+unfolding rowIn
 loop-again c =
     let sum = c .before .before in
     let row = sum .before .before .before in
@@ -157,9 +172,19 @@ loop-again c =
     let all = to .to .ensures .1 .0 in
     let near : c .on .result .account ≤ c .on .result .accounts
     = omega (arith, c .on .ensures, found to .within, all, all-accounts t, accounts-are p) in
-    let step = charging-turn p (turn (charge .before)) (charge .charge .ensures) (inv .1 .1 .1)
+    let step = charging-turn p (turn (charge .before)) (charge .charge .ensures) (inv .1 .1 .1 .0)
     (row .write-row .ensures) (sum .plus .ensures) (c .before .plus2 .ensures) in
-    (c .on .ensures .1 ∙ all ∙ inv .0, (near, (rw (c .on .ensures .0) (found to .next), step)))
+    let l = t .before .before .loop in
+    let start = t .before .before .before .before .before .before .before .before in
+    let ledger = start .args .ledger .now in
+    let file = start .args .file .now in
+    let spent =
+    row-spends ledger file (p .tabled .read) (l .i) (l .walk .account) (l .walk .budget) (inv .1 .1 .1 .1) (t .if1 .taken)
+    (to .before .row-at .ensures) refl (to .to .result .account) (to .to .result .budget) (to .to .ensures .0) (to .to .ensures .1 .1 .1) in
+    let left =
+    subst (λ n. Budget ledger file (l .i + 1) n (c .on .result .budget)) (sym (c .on .ensures .0))
+    (subst (λ n. Budget ledger file (l .i + 1) (to .to .result .account + 1) n) (sym (c .on .ensures .1 .1)) spent) in
+    (c .on .ensures .1 .0 ∙ all ∙ inv .0, (near, (rw (c .on .ensures .0) (found to .next), (step, left))))
 
 same-length : tie.Need-same-length Inv-loop μ-loop
 same-length c = search needs
@@ -167,7 +192,7 @@ same-length c = search needs
 returns : tie.Need-returns Inv-loop μ-loop
 returns c =
     let p = c .before .before .before .before .before .before .before .before .pre .0 in
-    charging-ends p (c .before .before .loop .inv .1 .1 .1) (omega (arith, c .if1 .left))
+    charging-ends p (c .before .before .loop .inv .1 .1 .1 .0) (omega (arith, c .if1 .left))
 
 pub charge-rows-spec : {M : Type 1} → statement M
 charge-rows-spec =

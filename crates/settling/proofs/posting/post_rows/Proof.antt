@@ -1,17 +1,19 @@
 -- `settling::posting::post_rows`: what is left to credit and to post is that of the rows from i on, each found by the
 -- walk from its account on.
 use Prim.Native.Nat.{_+_, _-_, _≤_}
-use mathlib.Core.Path.{_≡_, refl, sym, _∙_}
+use mathlib.Core.Path.{_≡_, refl, sym, subst, _∙_}
 use native.Mathlib.Omega.{arith}
 use borrow.Author.Needs.{needs}
 use lib.ListN.{length}
 use Rattle.words.specs.Words.{Bytes}
+use Rattle.reading.specs.Values.{rowIn}
 use Rattle.assessment.specs.Assessment.{mostCents, pool, credit}
 use Rattle.assessment.specs.Values.{mostActual}
 use Rattle.ledger.specs.Ledger.{ledgerBytes}
 use Rattle.settling.specs.Settling.{resultBytes, assessedFile}
 use Rattle.settling.specs.Values.{Passed}
 use Rattle.settling.proofs.SettledLaws.{chargedAt}
+use Rattle.settling.proofs.BudgetLaws.{Budget, budget-begins, row-enough, row-spends}
 use Rattle.settling.proofs.Turns.{Found, walk-finds, accounts-are, account-lies}
 use Rattle.settling.proofs.PostingLaws.{
   ids-kept,
@@ -32,7 +34,8 @@ use Rattle.settling.proofs.posting.post_rows.Tie as tie
 abbrev Inv-loop : tie.InvT-loop
 Inv-loop ledger₀ file h share result₀ credits₀ walk₀ i₀ ledger result credits walk i =
     (walk .accounts ≡ walk₀ .accounts)
-    × ((walk .account ≤ walk .accounts) × Pass ledger₀ file result₀ ledger result (credits .0) i (walk .account))
+    × ((walk .account ≤ walk .accounts)
+    × (Pass ledger₀ file result₀ ledger result (credits .0) i (walk .account) × Budget ledger₀ file i (walk .account) (walk .budget)))
 
 abbrev μ-loop : tie.MeasureT-loop
 μ-loop ledger₀ file h share result₀ credits₀ walk₀ i₀ ledger result credits walk i = h .rows - i
@@ -49,13 +52,13 @@ abbrev pass : (t : tie.Then1 Inv-loop μ-loop)
     let l = t .before .before .loop in
     Pass (args .ledger .now) (args .file .now) (args .result .now) (l .ledger) (l .result) (l .credits .0) (l .i)
     (l .walk .account)
-pass t = t .before .before .loop .inv .1 .1
+pass t = t .before .before .loop .inv .1 .1 .0
 
 -- the walk goes down all accounts
 all-accounts : (t : tie.Then1 Inv-loop μ-loop)
     → let start = t .before .before .before .before .before .before .before in
     t .before .before .loop .walk .accounts ≡ start .args .s .accounts
-all-accounts t = t .before .before .loop .inv .0 ∙ t .before .before .before .start .ensures .1
+all-accounts t = t .before .before .loop .inv .0 ∙ t .before .before .before .start .ensures .1 .0
 
 -- each element of the ledger is a byte
 bytes : (t : tie.Then1 Inv-loop μ-loop)
@@ -116,7 +119,9 @@ credited c =
     (bonus charge .0) (c .credit .ensures)
 
 start-requires : tie.Need-start-requires Inv-loop μ-loop
-start-requires c κs = search needs
+start-requires c κs =
+    let p = c .before .before .before .pre .0 in
+    (p .tabled .rows-few, p .ledger-read .few)
 
 loop-holds : tie.Need-loop-holds Inv-loop μ-loop
 loop-holds c =
@@ -125,12 +130,18 @@ loop-holds c =
     let cents = pre .1 .1 .1 .0 in
     let most = pre .1 .1 .1 .1 .0 in
     let begun = pass-starts (pre .0) (λ i. omega (arith, known i)) (omega arith) (pre .1 .0) (pre .1 .1 .0) in
-    (refl, (omega (arith, c .start .ensures .0), rw (c .start .ensures .0) begun))
+    let start = c .before .before .before .before in
+    let p = pre .0 in
+    let budget =
+    budget-begins (start .args .ledger .now) (start .args .file .now) (p .tabled .read) (c .start .result .budget) (c .start .result .account)
+    (omega (arith, c .start .ensures .1 .1, accounts-are p)) (c .start .ensures .0) in
+    (refl, (omega (arith, c .start .ensures .0), (rw (c .start .ensures .0) begun, budget)))
 
 row-at-requires : tie.Need-row-at-requires Inv-loop μ-loop
 row-at-requires c κs = (passed c .tabled, c .if1 .taken)
 
 to-requires : tie.Need-to-requires Inv-loop μ-loop
+unfolding rowIn
 to-requires c κs =
     let t = c .before .before in
     let l = t .before .before .loop in
@@ -139,7 +150,11 @@ to-requires c κs =
     let all = all-accounts t in
     let lies : ledgerBytes (l .walk .accounts) ≤ length (l .ledger) = rw (all, posting .bytes) (ledger-read .room) in
     let count = sym (count-kept (passed t) (bytes t) posting) in
-    (all ∙ accounts-are (passed t) ∙ count, (lies, (omega (arith, all, ledger-read .few), l .inv .1 .0)))
+    let start = t .before .before .before .before .before .before .before in
+    let enough =
+    row-enough (start .args .ledger .now) (start .args .file .now) (passed t .tabled .read) (l .i) (l .walk .account) (l .walk .budget)
+    (l .inv .1 .1 .1) (t .if1 .taken) (c .before .row-at .ensures) (ids-kept (passed t) (bytes t) posting) in
+    (all ∙ accounts-are (passed t) ∙ count, (lies, (omega (arith, all, ledger-read .few), (l .inv .1 .0, enough))))
 
 account-at-requires : tie.Need-account-at-requires Inv-loop μ-loop
 account-at-requires c κs =
@@ -211,6 +226,7 @@ loop-less c =
     omega (arith, t .if1 .taken)
 
 loop-again : tie.Need-loop-again Inv-loop μ-loop
+unfolding rowIn
 loop-again c =
     let put = c .before .before .before .before in
     let write = put .before .before .before .before .before in
@@ -230,13 +246,23 @@ loop-again c =
     let all = to .to .ensures .1 .0 in
     let near : c .on .result .account ≤ c .on .result .accounts
     = omega (arith, c .on .ensures, found to .within, all, all-accounts t, accounts-are p) in
-    (c .on .ensures .1 ∙ all ∙ t .before .before .loop .inv .0, (near, rw (c .on .ensures .0) step))
+    let l = t .before .before .loop in
+    let start = t .before .before .before .before .before .before .before in
+    let ledger = start .args .ledger .now in
+    let file = start .args .file .now in
+    let spent =
+    row-spends ledger file (p .tabled .read) (l .i) (l .walk .account) (l .walk .budget) (l .inv .1 .1 .1) (t .if1 .taken) (row .row-at .ensures)
+    (ids-kept p (bytes t) (pass t .posting)) (to .to .result .account) (to .to .result .budget) (to .to .ensures .0) (to .to .ensures .1 .1 .1) in
+    let left =
+    subst (λ n. Budget ledger file (l .i + 1) n (c .on .result .budget)) (sym (c .on .ensures .0))
+    (subst (λ n. Budget ledger file (l .i + 1) (to .to .result .account + 1) n) (sym (c .on .ensures .1 .1)) spent) in
+    (c .on .ensures .1 .0 ∙ all ∙ l .inv .0, (near, (rw (c .on .ensures .0) step, left)))
 
 same-length : tie.Need-same-length Inv-loop μ-loop
-same-length c = c .before .before .loop .inv .1 .1 .posting .bytes
+same-length c = c .before .before .loop .inv .1 .1 .0 .posting .bytes
 
 same-length-2 : tie.Need-same-length-2 Inv-loop μ-loop
-same-length-2 c = c .before .before .loop .inv .1 .1 .crediting .long
+same-length-2 c = c .before .before .loop .inv .1 .1 .0 .crediting .long
 
 returns : tie.Need-returns Inv-loop μ-loop
 returns c =
@@ -246,7 +272,7 @@ returns c =
     let all = c .before .before .before .start .ensures in
     let cents = pre .1 .1 .1 .0 in
     let most = pre .1 .1 .1 .1 .0 in
-    pass-ends (pre .0) (λ i. omega (arith, known i)) (omega arith) (inv .1 .1) (omega (arith, c .if1 .left))
+    pass-ends (pre .0) (λ i. omega (arith, known i)) (omega arith) (inv .1 .1 .0) (omega (arith, c .if1 .left))
     (omega (arith, inv, all, accounts-are (pre .0)))
 
 pub post-rows-spec : {M : Type 1} → statement M
