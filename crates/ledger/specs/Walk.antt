@@ -11,11 +11,12 @@ unfoldable pub comparisons : ℕ → List ℕ → ℕ
 comparisons id [] = 0
 comparisons id (x ∷ xs) = suc (cond (eqb x id) 0 (comparisons id xs))
 
--- the comparisons of a pass: each id is looked for from behind the one found before it on
+-- the comparisons of a pass: each id is looked for after the one found before it
 unfoldable pub passComparisons : List ℕ → List ℕ → ℕ
 passComparisons [] xs = 0
 passComparisons (id ∷ ids) xs = comparisons id xs + passComparisons ids (drop (suc (before id xs)) xs)
 
--- The budget of a pass: as many comparisons as there are rows and accounts together are enough, whether every row has an account or not
+-- The budget of a pass: as many comparisons as there are rows and accounts together are enough,
+-- whether every row has an account or not
 unfoldable pub BudgetSuffices : Type 0
 BudgetSuffices = (rows accounts : List ℕ) → passComparisons rows accounts ≤ length rows + length accounts
