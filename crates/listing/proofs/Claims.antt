@@ -3,11 +3,11 @@ use mathlib.Core.Path.{ap}
 use mathlib.Core.List.{_++_}
 use Rattle.stream.specs.Claims.{ReadingIsEnough}
 use Rattle.stream.proofs.Claims.{reading-is-enough}
-use Rattle.listing.specs.Lines.{heading}
-use Rattle.listing.specs.Npalist.{ledgerBuffer, listingSteps, npalist}
+use Rattle.listing.specs.Lines.{heading, bytesOfLines}
+use Rattle.listing.specs.Npalist.{ledgerBuffer, listingSteps, listed, npalist}
 use Rattle.listing.specs.Claims.{StepsPrintTheListing}
 
 -- the heading and the steps are what npalist prints
 pub steps-print-the-listing : StepsPrintTheListing
-unfolding StepsPrintTheListing npalist ReadingIsEnough
-steps-print-the-listing budget stream h = ap (λ o. heading ++ o .printed) (reading-is-enough _ listingSteps budget 0 ledgerBuffer stream h)
+unfolding StepsPrintTheListing npalist listed ReadingIsEnough
+steps-print-the-listing budget stream h = ap (λ o. heading ++ bytesOfLines (o .printed)) (reading-is-enough _ _ listingSteps budget 0 ledgerBuffer stream h)

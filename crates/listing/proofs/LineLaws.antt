@@ -1,12 +1,15 @@
 -- The laws of lines: a number before a comma or a newline, and a line of words as its first word and the rest.
-use Prim.Native.Nat.{ℕ, suc, _+_, _-_, _*_, _≤_, _<_}
+use Prim.Native.Nat.{ℕ, zero, suc, _+_, _-_, _*_, _≤_, _<_}
 use mathlib.Core.Path.{_≡_, refl, sym, ap, ap₂, _∙_}
-use mathlib.Core.List.{List, [], _∷_, _++_}
+use mathlib.Core.List.{List, [], _∷_, _++_, append-assoc, append-nil}
 use native.Mathlib.Omega.{arith}
 use lib.ListN.{length, drop, length-append}
 use lib.Seq.{drop-drop}
 use Rattle.words.specs.Words.{number, numberAt, word64, entries, wordsIn, placedAt}
-use Rattle.listing.specs.Lines.{text, decimal, line}
+use Rattle.listing.specs.Lines.{text, decimal, field, line, Line, bytesOfLine, bytesOfLines}
+use Rattle.listing.specs.Npalist.{rowLine, poolLine}
+use Rattle.listing.specs.Code.{yearIn}
+use Rattle.listing.specs.declared.lines.YearFigures.{YearFigures}
 use Rattle.listing.specs.Room.{fieldRoom}
 use Rattle.words.proofs.Placing.{then-place, place-rest}
 use Rattle.listing.proofs.Digits.{decimal-most}
@@ -78,3 +81,44 @@ words-end n i v at m end b out x goal h e left stop put from =
       put ∙ ap (λ l. placedAt at l out) same ∙ left,
       omega (arith, ap length same),
     )
+
+-- the n words of b from word k on, by their numbers
+unfoldable wordsFrom : List ℕ → ℕ → ℕ → List ℕ
+wordsFrom b k zero = []
+wordsFrom b k (suc n) = word64 b k ∷ wordsFrom b (k + 1) n
+
+-- words read one after the other are those of their numbers
+words-from : (n k : ℕ) (b : List ℕ) → wordsIn n (drop (8 * k) b) ≡ wordsFrom b k n
+unfolding wordsIn entries wordsFrom word64 numberAt
+words-from zero k b = refl
+words-from (suc n) k b =
+    let place : 8 * k + 8 ≡ 8 * (k + 1) = omega arith in
+    ap (λ ws. number 8 (drop (8 * k) b) ∷ ws)
+    (ap (wordsIn n) (drop-drop 8 (8 * k) b ∙ ap (λ p. drop p b) place) ∙ words-from n (k + 1) b)
+
+-- the bytes of a row's line, by the words read one after the other
+pub row-bytes : (interval id : ℕ) (b : List ℕ) → line (interval ∷ id ∷ wordsIn 8 b) ≡ bytesOfLine (rowLine interval id b)
+unfolding wordsFrom bytesOfLine rowLine
+row-bytes interval id b = ap (λ ws. line (interval ∷ id ∷ ws)) (words-from 8 0 b)
+
+-- and those of a pool line
+pub pool-bytes : (interval : ℕ) (b : List ℕ) → text "pool," ++ line (interval ∷ wordsIn 4 b) ≡ bytesOfLine (poolLine interval b)
+unfolding wordsFrom bytesOfLine poolLine
+pool-bytes interval b = ap (λ ws. text "pool," ++ line (interval ∷ ws)) (words-from 4 0 b)
+
+-- and those of a year line, by the parts that the code writes
+pub year-bytes : (y : YearFigures) → text "year," ++ (field (y .id) ++ ((field (y .shortfall .0) ++ field (y .bonus .0))
+    ++ line (y .charged .0 ∷ y .credited .0 ∷ y .limit .0 ∷ []))) ≡ bytesOfLine (Line.year (yearIn y))
+unfolding bytesOfLine yearIn line
+year-bytes y = ap (λ l. text "year," ++ (field (y .id) ++ l)) (append-assoc (field (y .shortfall .0)) (field (y .bonus .0)) _)
+
+-- the bytes of one line
+pub one-line : (l : Line) → bytesOfLine l ≡ bytesOfLines (l ∷ [])
+unfolding bytesOfLines
+one-line l = sym (append-nil (bytesOfLine l))
+
+-- the bytes of lines and of lines after them
+pub lines-append : (xs ys : List Line) → bytesOfLines (xs ++ ys) ≡ bytesOfLines xs ++ bytesOfLines ys
+unfolding bytesOfLines
+lines-append [] ys = refl
+lines-append (x ∷ xs) ys = ap (λ b. bytesOfLine x ++ b) (lines-append xs ys) ∙ sym (append-assoc (bytesOfLine x) (bytesOfLines xs) (bytesOfLines ys))

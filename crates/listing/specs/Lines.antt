@@ -32,20 +32,68 @@ digits (suc n) v = cond (ltb v base) [] (digits n (v / base)) ++ (zeroDigit + v 
 unfoldable pub decimal : ℕ → List ℕ
 decimal v = digits mostDigits v
 
+-- a number and the comma after it
+abbrev pub field : ℕ → List ℕ
+field v = decimal v ++ text ","
+
 -- numbers with commas between them, and a newline
 unfoldable pub line : List ℕ → List ℕ
 line [] = text "\n"
 line (v ∷ []) = decimal v ++ text "\n"
-line (v ∷ w ∷ ws) = decimal v ++ text "," ++ line (w ∷ ws)
+line (v ∷ w ∷ ws) = field v ++ line (w ∷ ws)
 
 -- the heading
 unfoldable pub heading : List ℕ
 heading = text "interval,id,expected,actual,outage,economic,shortfall,bonus,charge,credit\n"
 
--- a refusal of a block on a ground
-unfoldable pub refusedLine : ℕ → ℕ → List ℕ
-refusedLine block ground = text "refused," ++ line (block ∷ ground ∷ [])
+-- a row's line, by the heading's names
+pub record RowLine : Type 0 where
+  pub interval : ℕ
+  pub id : ℕ
+  pub expected : ℕ
+  pub actual : ℕ
+  pub outage : ℕ
+  pub economic : ℕ
+  pub shortfall : ℕ
+  pub bonus : ℕ
+  pub charge : ℕ
+  pub credit : ℕ
 
--- a stream cut off: no opening, or not all of a length or a block
-unfoldable pub cutLine : ℕ → List ℕ
-cutLine block = text "cut," ++ line (block ∷ [])
+-- an interval's pool line
+pub record PoolLine : Type 0 where
+  pub interval : ℕ
+  pub ratio : ℕ
+  pub charges : ℕ
+  pub credits : ℕ
+  pub carried : ℕ
+
+-- the year line of a plant's page
+pub record YearLine : Type 0 where
+  pub id : ℕ
+  pub shortfall : ℕ
+  pub bonus : ℕ
+  pub charged : ℕ
+  pub credited : ℕ
+  pub limit : ℕ
+
+-- a line: of a row, of a pool, of a block refused on a ground, of a stream cut off in a block, or of a plant's year
+pub data Line : Type 0 where
+  row : RowLine → Line
+  pool : PoolLine → Line
+  refused : ℕ → ℕ → Line
+  cut : ℕ → Line
+  year : YearLine → Line
+
+-- the bytes of a line
+unfoldable pub bytesOfLine : Line → List ℕ
+bytesOfLine (row r) =
+    line (r .interval ∷ r .id ∷ r .expected ∷ r .actual ∷ r .outage ∷ r .economic ∷ r .shortfall ∷ r .bonus ∷ r .charge ∷ r .credit ∷ [])
+bytesOfLine (pool p) = text "pool," ++ line (p .interval ∷ p .ratio ∷ p .charges ∷ p .credits ∷ p .carried ∷ [])
+bytesOfLine (refused block ground) = text "refused," ++ line (block ∷ ground ∷ [])
+bytesOfLine (cut block) = text "cut," ++ line (block ∷ [])
+bytesOfLine (year y) = text "year," ++ line (y .id ∷ y .shortfall ∷ y .bonus ∷ y .charged ∷ y .credited ∷ y .limit ∷ [])
+
+-- the bytes of lines, one after the other
+unfoldable pub bytesOfLines : List Line → List ℕ
+bytesOfLines [] = []
+bytesOfLines (l ∷ ls) = bytesOfLine l ++ bytesOfLines ls

@@ -27,6 +27,10 @@ rowRoom = 10 * fieldRoom
 abbrev pub poolRoom : ℕ
 poolRoom = 5 + 5 * fieldRoom
 
+-- a year line: "year," and six numbers
+abbrev pub yearRoom : ℕ
+yearRoom = 5 + 6 * fieldRoom
+
 -- a block: the lines of the most rows, and the pool line
 abbrev pub blockRoom : ℕ
 blockRoom = mostRows * rowRoom + poolRoom

@@ -19,6 +19,8 @@ ghost use Rattle.stream.specs.Code.{StepTaken};
 ghost use Rattle.reading.specs.Values.{Tabled};
 ghost use Rattle.settling.specs.Settling.{resultBytes};
 ghost use Rattle.listing.specs.Npalist.{fileLines, resultBuffer, openingListed, intervalListed, blockListed};
+ghost use Rattle.listing.specs.Lines.{bytesOfLines};
+ghost use Rattle.listing.specs.Code.{inBytes};
 ghost use Rattle.listing.specs.Room.{refusedRoom, rowRoom, blockRoom};
 
 // Writes the lines of the rows of a settled file.
@@ -26,8 +28,8 @@ fn put_row_lines(out: &mut [u8], at: usize, file: &[u8], h: Header, result: &[u8
     requires { ⌜ Tabled (now file) h ⌝ }
     requires { ⌜ resultBytes (h .rows) ≤ length (now result) ⌝ }
     requires { ⌜ at + rowRoom * h .rows ≤ length (now out) ⌝ }
-    ensures { λ _. ⌜ now (out .exit) ≡ placedAt at (fileLines (now (file .entry)) (now (result .entry))) (now (out .entry)) ⌝ }
-    ensures { λ r. ⌜ r ≡ at + length (fileLines (now (file .entry)) (now (result .entry))) ⌝ }
+    ensures { λ _. ⌜ now (out .exit) ≡ placedAt at (bytesOfLines (fileLines (now (file .entry)) (now (result .entry)))) (now (out .entry)) ⌝ }
+    ensures { λ r. ⌜ r ≡ at + length (bytesOfLines (fileLines (now (file .entry)) (now (result .entry)))) ⌝ }
     ensures { λ r. ⌜ r ≤ at + rowRoom * h .rows ⌝ }
 {
     let mut to = at;
@@ -51,7 +53,7 @@ fn list_settled(
     requires { ⌜ now result ≡ resultBuffer ⌝ }
     requires { ⌜ blockRoom ≤ length (now out) ⌝ }
     ensures { λ r. ⌜
-        StepTaken (intervalListed number (now (ledger .entry)) (now (file .entry)))
+        StepTaken (inBytes (intervalListed number (now (ledger .entry)) (now (file .entry))))
         (now (ledger .exit)) (now (out .entry)) (now (out .exit)) r
         ⌝ }
 {
@@ -70,7 +72,7 @@ fn list_settled(
 fn list_interval(number: u64, ledger: &mut [u8], file: &[u8], out: &mut [u8]) -> Taken
     requires { ⌜ blockRoom ≤ length (now out) ⌝ }
     ensures { λ r. ⌜
-        StepTaken (intervalListed number (now (ledger .entry)) (now (file .entry)))
+        StepTaken (inBytes (intervalListed number (now (ledger .entry)) (now (file .entry))))
         (now (ledger .exit)) (now (out .entry)) (now (out .exit)) r
         ⌝ }
 {
@@ -79,10 +81,10 @@ fn list_interval(number: u64, ledger: &mut [u8], file: &[u8], out: &mut [u8]) ->
 }
 
 // Opens a ledger, and writes its refusal, if any.
-fn list_opening(ledger: &mut [u8], block: &[u8], out: &mut [u8]) -> Taken
+pub fn list_opening(ledger: &mut [u8], block: &[u8], out: &mut [u8]) -> Taken
     requires { ⌜ refusedRoom ≤ length (now out) ⌝ }
     ensures { λ r. ⌜
-        StepTaken (openingListed (now (ledger .entry)) (now (block .entry)))
+        StepTaken (inBytes (openingListed (now (ledger .entry)) (now (block .entry))))
         (now (ledger .exit)) (now (out .entry)) (now (out .exit)) r
         ⌝ }
 {
@@ -98,7 +100,7 @@ fn list_opening(ledger: &mut [u8], block: &[u8], out: &mut [u8]) -> Taken
 pub fn list_block(number: u64, ledger: &mut [u8], block: &[u8], out: &mut [u8]) -> Taken
     requires { ⌜ blockRoom ≤ length (now out) ⌝ }
     ensures { λ r. ⌜
-        StepTaken (blockListed number (now (ledger .entry)) (now (block .entry)))
+        StepTaken (inBytes (blockListed number (now (ledger .entry)) (now (block .entry))))
         (now (ledger .exit)) (now (out .entry)) (now (out .exit)) r
         ⌝ }
 {

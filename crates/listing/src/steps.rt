@@ -13,15 +13,17 @@ use stream::Found;
 use stream::Taken;
 use stream::next_block;
 ghost use mathlib.Core.Path.{_≡_};
-ghost use mathlib.Core.List.{_++_};
+ghost use mathlib.Core.List.{_++_, []};
 ghost use Prim.Native.Nat.{_≤_};
 ghost use lib.ListN.{length};
 ghost use Rattle.words.specs.Words.{placedAt};
 ghost use Rattle.stream.specs.Stream.{lengthBytes, End, bytesDue};
-ghost use Rattle.stream.specs.Code.{StepTaken};
+ghost use Rattle.stream.specs.Code.{foundAs, StepTaken};
 ghost use Rattle.reading.specs.Interval.{mostFileBytes};
-ghost use Rattle.listing.specs.Npalist.{mostBytes, overLongGround, endLine, nextListed};
-ghost use Rattle.listing.specs.Room.{cutRoom, blockRoom};
+ghost use Rattle.listing.specs.Lines.{bytesOfLines};
+ghost use Rattle.listing.specs.Npalist.{mostBytes, overLongGround, endLines, nextListed};
+ghost use Rattle.listing.specs.Code.{inBytes, stopLines};
+ghost use Rattle.listing.specs.Room.{refusedRoom, cutRoom, blockRoom};
 
 // The buffers of a listing: the longest block, a ledger of the most accounts, and the lines of the most rows.
 pub const BLOCK_BYTES: usize = MOST_FILE_BYTES;
@@ -54,8 +56,8 @@ fn over_long_ground(number: u64) -> u64
 // Writes a cut if the stream ends before the opening, and nothing if it ends later.
 fn put_end(number: u64, out: &mut [u8]) -> usize
     requires { ⌜ cutRoom ≤ length (now out) ⌝ }
-    ensures { λ _. ⌜ now (out .exit) ≡ placedAt 0 (endLine number End.ended) (now (out .entry)) ⌝ }
-    ensures { λ r. ⌜ r ≡ length (endLine number End.ended) ⌝ }
+    ensures { λ _. ⌜ now (out .exit) ≡ placedAt 0 (bytesOfLines (endLines number End.ended)) (now (out .entry)) ⌝ }
+    ensures { λ r. ⌜ r ≡ length (bytesOfLines (endLines number End.ended)) ⌝ }
     ensures { λ r. ⌜ r ≤ cutRoom ⌝ }
 {
     if number == 0 {
@@ -64,30 +66,35 @@ fn put_end(number: u64, out: &mut [u8]) -> usize
     0
 }
 
+// Writes the line where a stream stops, if any, and nothing where a block is next.
+pub fn put_stop(number: u64, found: Found, out: &mut [u8]) -> usize
+    requires { ⌜ refusedRoom ≤ length (now out) ⌝ }
+    ensures { λ _. ⌜ now (out .exit) ≡ placedAt 0 (bytesOfLines (stopLines number (foundAs found []))) (now (out .entry)) ⌝ }
+    ensures { λ r. ⌜ r ≡ length (bytesOfLines (stopLines number (foundAs found []))) ⌝ }
+    ensures { λ r. ⌜ r ≤ refusedRoom ⌝ }
+{
+    match found {
+        Found::Ended => put_end(number, out),
+        Found::Cut => put_cut(out, 0, number),
+        Found::OverLong => put_refused(out, 0, number, over_long_ground(number)),
+        Found::Block => 0,
+    }
+}
+
 // Takes the step on what was read of a length and of the bytes due after it.
 pub fn list_next(number: u64, ledger: &mut [u8], head: &[u8], block: &[u8], out: &mut [u8]) -> Taken
     requires { ⌜ length (now head) ≤ lengthBytes ⌝ }
     requires { ⌜ length (now block) ≤ bytesDue (mostBytes number) (now head) ⌝ }
     requires { ⌜ blockRoom ≤ length (now out) ⌝ }
     ensures { λ r. ⌜
-        StepTaken (nextListed number (now (ledger .entry)) (now (head .entry) ++ now (block .entry)))
+        StepTaken (inBytes (nextListed number (now (ledger .entry)) (now (head .entry) ++ now (block .entry))))
         (now (ledger .exit)) (now (out .entry)) (now (out .exit)) r
         ⌝ }
 {
     let found = next_block(most_bytes(number), head, block);
-    match found {
-        Found::Ended => {
-            let end = put_end(number, out);
-            Taken { end, on: false }
-        }
-        Found::Cut => {
-            let end = put_cut(out, 0, number);
-            Taken { end, on: false }
-        }
-        Found::OverLong => {
-            let end = put_refused(out, 0, number, over_long_ground(number));
-            Taken { end, on: false }
-        }
-        Found::Block => list_block(number, ledger, block, out),
+    if found.stops() {
+        let end = put_stop(number, found, out);
+        return Taken { end, on: false };
     }
+    list_block(number, ledger, block, out)
 }

@@ -20,6 +20,7 @@ ghost use Rattle.stream.specs.Code.{StepTaken};
 ghost use Rattle.standard.specs.Input.{ReadNext};
 ghost use Rattle.reading.specs.Interval.{mostFileBytes};
 ghost use Rattle.listing.specs.Npalist.{ledgerBuffer, mostBytes, nextListed};
+ghost use Rattle.listing.specs.Code.{inBytes};
 ghost use Rattle.listing.specs.Room.{blockRoom};
 
 // A loop that is proved has to end, and nothing says that standard input does: no stream has so many blocks.
@@ -45,8 +46,8 @@ fn next_step(
     ensures { λ r. ⌜ ReadNext (mostBytes number) (now (head .exit)) (r .read) ⌝ }
     ensures { λ r. ⌜
         StepTaken
-        (nextListed number (now (ledger .entry))
-        (take (r .read .length) (now (head .exit)) ++ take (r .read .block) (now (block .exit))))
+        (inBytes (nextListed number (now (ledger .entry))
+        (take (r .read .length) (now (head .exit)) ++ take (r .read .block) (now (block .exit)))))
         (now (ledger .exit)) (now (out .entry)) (now (out .exit)) (r .taken)
         ⌝ }
 {

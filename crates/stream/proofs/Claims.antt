@@ -11,11 +11,11 @@ use Rattle.stream.specs.Claims.{readingSteps, BudgetIsEnough, ReadingIsE
 use Rattle.stream.proofs.Laws.{readBytes, enough, rest-left}
 
 -- an outcome, and what comes of going on after it
-unfoldable onward : {S : Type 0} → Outcome S → Outcome S → Outcome S
+unfoldable onward : {A S : Type 0} → Outcome A S → Outcome A S → Outcome A S
 onward o later = cond (o .on) (joined o later) o
 
 -- after an end nothing more is done, so that what comes later matters only where a block is next
-onward-same : {S : Type 0} (p : Steps S) (number : ℕ) (state : S) (next : Next) (x y : Outcome S)
+onward-same : {A S : Type 0} (p : Steps A S) (number : ℕ) (state : S) (next : Next) (x y : Outcome A S)
     → ((bytes rest : List ℕ) → next ≡ Next.block bytes rest → x ≡ y)
     → onward (step p number state next) x ≡ onward (step p number state next) y
 unfolding onward step
@@ -23,7 +23,7 @@ onward-same p number state (Next.stop e) x y same = refl
 onward-same p number state (Next.block bytes rest) x y same = ap (onward (p .block number state bytes)) (same bytes rest refl)
 
 -- what stops later has stopped
-onward-stops : {S : Type 0} (p : Steps S) (number : ℕ) (state : S) (next : Next) (x : Outcome S)
+onward-stops : {A S : Type 0} (p : Steps A S) (number : ℕ) (state : S) (next : Next) (x : Outcome A S)
     → ((bytes rest : List ℕ) → next ≡ Next.block bytes rest → x .on ≡ false)
     → onward (step p number state next) x .on ≡ false
 unfolding onward step joined
@@ -34,7 +34,7 @@ onward-stops p number state (Next.block bytes rest) x later = by (p .block numbe
     by true e = later bytes rest refl
     by false e = e
 
-module _ (S : Type 0) (p : Steps S) where
+module _ (A S : Type 0) (p : Steps A S) where
   -- the rest of a stream is shorter than the stream
   shorter : (number : ℕ) (s bytes rest : List ℕ) → nextBlock (p .most number) s ≡ Next.block bytes rest → length (after (nextBlock (p .most number) s)) < length s
   unfolding after
@@ -86,6 +86,6 @@ budget-is-enough = never-used-up
 -- and with it reading a length and the bytes due after it is enough
 pub reading-is-enough : ReadingIsEnough
 unfolding ReadingIsEnough
-reading-is-enough S p budget number state s h =
+reading-is-enough A S p budget number state s h =
     let all : budget ≡ budget - (length s + 1) + (length s + 1) = omega arith in
-    reading-same S p budget number state s ∙ ap (λ b. stepsOver p b number state s) all ∙ many-more S p (budget - (length s + 1)) number state s
+    reading-same A S p budget number state s ∙ ap (λ b. stepsOver p b number state s) all ∙ many-more A S p (budget - (length s + 1)) number state s

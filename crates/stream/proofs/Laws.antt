@@ -99,7 +99,7 @@ module _ (most : ℕ) (head b : List ℕ) (whole : length head ≡ lengthBytes) 
       (ap₂ Next.block (take-all n b (omega arith)) (drop-of-length-le b {i = n} (omega arith)))
 
 -- a step p on what follows a length n
-module _ {S : Type 0} (p : Steps S) (number : ℕ) (state : S) (most n : ℕ) (b : List ℕ) where
+module _ {A S : Type 0} (p : Steps A S) (number : ℕ) (state : S) (most n : ℕ) (b : List ℕ) where
   -- the bytes due are enough for it, by whether the length is over the limit and whether fewer bytes follow
   due-enough : (t u : Bool) → ltb most n ≡ t → ltb (length b) n ≡ u
       → step p number state (following most n (take (cond t 0 n) b)) ≡ step p number state (following most n b)
@@ -158,7 +158,7 @@ module _ (most : ℕ) (s : List ℕ) where
     front = take-add lengthBytes (bytesDue most head) s ∙ ap (λ k. head ++ take k tail) due
 
     -- it is enough for a step
-    enough-whole : {S : Type 0} (p : Steps S) (number : ℕ) (state : S) → step p number state (nextBlock most (take readBytes s)) ≡ step p number state (nextBlock most s)
+    enough-whole : {A S : Type 0} (p : Steps A S) (number : ℕ) (state : S) → step p number state (nextBlock most (take readBytes s)) ≡ step p number state (nextBlock most s)
     enough-whole p number state =
         ap (λ k. step p number state (nextBlock most k)) front
         ∙ ap (step p number state) (next-following most head (take (cond (ltb most n) 0 n) tail) whole n refl)
@@ -182,7 +182,7 @@ module _ (most : ℕ) (s : List ℕ) where
       by false q = let z : _≡_ {A = ℕ} 0 1 = cc in omega arith
 
   -- a length and the bytes due after it are enough for a step
-  pub enough : {S : Type 0} (p : Steps S) (number : ℕ) (state : S) → step p number state (nextBlock most (take readBytes s)) ≡ step p number state (nextBlock most s)
+  pub enough : {A S : Type 0} (p : Steps A S) (number : ℕ) (state : S) → step p number state (nextBlock most (take readBytes s)) ≡ step p number state (nextBlock most s)
   enough p number state = by (ltb (length s) lengthBytes) refl
     where
       by : (t : Bool) → ltb (length s) lengthBytes ≡ t → step p number state (nextBlock most (take readBytes s)) ≡ step p number state (nextBlock most s)

@@ -18,7 +18,7 @@ foundAs OverLong b = Next.stop End.overLong
 foundAs Block b = Next.block b []
 
 -- a step as code takes it: the state, the bytes to print at the front of a buffer, where they end, and whether to go on
-pub record StepTaken {S : Type 0} (o : Outcome S) (state : S) (before after : List ℕ) (taken : Taken) : Type 0 where
+pub record StepTaken {S : Type 0} (o : Outcome ℕ S) (state : S) (before after : List ℕ) (taken : Taken) : Type 0 where
   pub leaves : state ≡ o .state
   pub puts : after ≡ placedAt 0 (o .printed) before
   pub ends : taken .end ≡ length (o .printed)

@@ -25,7 +25,7 @@ pub record NextFigures : Type 0 where
 
 -- a program that prints blocks of up to two bytes, to the first without bytes, and adds up their lengths;
 -- at an end it prints 255 and the number of the block
-unfoldable pub copying : Steps ℕ
+unfoldable pub copying : Steps ℕ ℕ
 copying = record {
   most = λ number. 2;
   block = λ number sum bytes. record { printed = bytes; state = sum + length bytes; on = ltb 0 (length bytes) };

@@ -1,7 +1,7 @@
 -- A stream of blocks, each after its length as one 32-bit word.
 use Prim.Native.Nat.{ℕ}
 use mathlib.Core.List.{List, []}
-use mathlib.Core.Bool.{cond}
+use mathlib.Core.Bool.{Bool, true, false, cond}
 use lib.ListN.{length, take, drop}
 use lib.Dec.{ltb, eqb}
 use Rattle.words.specs.Words.{number}
@@ -31,6 +31,16 @@ nextBlock most s =
     (cond (ltb most n) (stop overLong)
     (cond (ltb (length rest) n) (stop cut)
     (block (take n rest) (drop n rest)))))
+
+-- whether the stream stops there
+unfoldable pub stops : Next → Bool
+stops (stop e) = true
+stops (block bytes rest) = false
+
+-- the bytes of the block that comes next; none where the stream stops
+unfoldable pub bytesOfNext : Next → List ℕ
+bytesOfNext (stop e) = []
+bytesOfNext (block bytes rest) = bytes
 
 -- the rest of a stream after what comes next
 unfoldable pub after : Next → List ℕ

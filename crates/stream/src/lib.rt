@@ -2,10 +2,10 @@
 
 use words::number32;
 ghost use mathlib.Core.Path.{_≡_};
-ghost use mathlib.Core.List.{_++_};
+ghost use mathlib.Core.List.{_++_, []};
 ghost use Prim.Native.Nat.{_≤_};
 ghost use lib.ListN.{length, take};
-ghost use Rattle.stream.specs.Stream.{lengthBytes, nextBlock, bytesDue};
+ghost use Rattle.stream.specs.Stream.{lengthBytes, nextBlock, stops as stopsAt, bytesDue};
 ghost use Rattle.stream.specs.Code.{foundAs};
 
 pub const LENGTH_BYTES: usize = 4;
@@ -16,6 +16,20 @@ pub enum Found {
     Cut,
     OverLong,
     Block,
+}
+
+impl Found {
+    // Whether the stream stops there.
+    pub fn stops(self) -> bool
+        ensures { λ r. ⌜ r ≡ stopsAt (foundAs self []) ⌝ }
+    {
+        match self {
+            Found::Ended => true,
+            Found::Cut => true,
+            Found::OverLong => true,
+            Found::Block => false,
+        }
+    }
 }
 
 // What a step leaves to its program: the end of the bytes to print, and whether to go on.

@@ -1,5 +1,7 @@
 -- `listing::blocks::list_block` meets its contract. The number decides between an opening and an interval.
+use mathlib.Core.Path.{ap}
 use Rattle.listing.specs.Npalist.{blockListed}
+use Rattle.listing.specs.Code.{inBytes}
 use Rattle.stream.proofs.StepLaws.{step-as}
 use Rattle.listing.proofs.EndLaws.{at-first, at-later}
 use borrow.Author.Needs.{needs}
@@ -19,7 +21,7 @@ returns : tie.Need-returns
 unfolding blockListed
 returns c =
     let o = c .before .before .before .before in
-    step-as _ _ _ _ _ _ (at-first _ _ _ (o .before .before .before .if1 .taken)) (o .list-opening .ensures)
+    step-as _ _ _ _ _ _ (ap inBytes (at-first _ _ _ (o .before .before .before .if1 .taken))) (o .list-opening .ensures)
 
 list-interval-requires : tie.Need-list-interval-requires
 list-interval-requires c κs = search needs
@@ -34,7 +36,7 @@ returns-2 : tie.Need-returns-2
 unfolding blockListed
 returns-2 c =
     let i = c .before .before .before .before in
-    step-as _ _ _ _ _ _ (at-later _ _ _ (i .before .before .before .if1 .left)) (i .list-interval .ensures)
+    step-as _ _ _ _ _ _ (ap inBytes (at-later _ _ _ (i .before .before .before .if1 .left))) (i .list-interval .ensures)
 
 pub list-block-spec : {M : Type 1} → statement M
 list-block-spec =

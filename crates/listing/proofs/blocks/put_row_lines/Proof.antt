@@ -9,6 +9,7 @@ use Rattle.reading.specs.Interval.{headerOf, rowsOf}
 use Rattle.reading.specs.Values.{headerIn, rowIn}
 use Rattle.reading.proofs.Facts.{row-count}
 use Rattle.settling.specs.Settling.{resultHeaderBytes, resultBytes}
+use Rattle.listing.specs.Lines.{bytesOfLines}
 use Rattle.listing.specs.Npalist.{rowLines}
 use Rattle.listing.specs.Room.{rowRoom}
 use Rattle.listing.proofs.BlockLaws.{linesLeft, lines-start, row-turn, row-end}
@@ -17,7 +18,7 @@ use Rattle.listing.proofs.blocks.put_row_lines.Tie as tie
 
 abbrev Inv-loop : tie.InvT-loop
 Inv-loop out₀ at file h result to₀ i₀ out to i =
-    let all = rowLines (h .interval) (rowsOf file) (drop resultHeaderBytes result) in
+    let all = bytesOfLines (rowLines (h .interval) (rowsOf file) (drop resultHeaderBytes result)) in
     (i ≤ h .rows)
     × (placedAt to (linesLeft file result (h .interval) i) out ≡ placedAt at all out₀)
     × (to + length (linesLeft file result (h .interval) i) ≡ at + length all)
@@ -30,7 +31,7 @@ abbrev μ-loop : tie.MeasureT-loop
 loop-holds : tie.Need-loop-holds Inv-loop μ-loop
 loop-holds c =
     let s = c .before .before .before in
-    let same = lines-start (s .args .file .now) (s .args .result .now) (s .args .h .interval) in (
+    let same = ap bytesOfLines (lines-start (s .args .file .now) (s .args .result .now) (s .args .h .interval)) in (
       omega arith,
       ap (λ l. placedAt (s .args .at) l (s .args .out .now)) (sym same),
       ap (λ l. s .args .at + length l) (sym same),
@@ -94,7 +95,7 @@ returns c =
     let f = s .args .file .now in
     let r = s .args .result .now in
     let count = row-count (s .pre .0 .read) in
-    let same = ap (λ h. rowLines (h .interval) (rowsOf f) (drop resultHeaderBytes r)) (s .pre .0 .read .says) in
+    let same = ap (λ h. bytesOfLines (rowLines (h .interval) (rowsOf f) (drop resultHeaderBytes r))) (s .pre .0 .read .says) in
     let end = row-end f r (s .args .h .interval) (l .loop .i) _ _ (l .loop .out) _ (omega (arith, count)) (l .loop .inv .1) (l .loop .inv .2) in
     (end .0 ∙ ap (λ k. placedAt (s .args .at) k (s .args .out .now)) same, (end .1 ∙ ap (λ k. s .args .at + length k) same, omega arith))
 

@@ -1,7 +1,7 @@
 -- `listing::lines::put_cut` meets its contract. The block stands after the word.
 use native.Mathlib.Omega.{arith}
 use borrow.Author.Needs.{needs}
-use Rattle.listing.specs.Lines.{text, cutLine}
+use Rattle.listing.specs.Lines.{text, bytesOfLine}
 use Rattle.words.proofs.Placing.{then-place}
 use Rattle.listing.proofs.lines.put_cut.Statement.{statement}
 use Rattle.listing.proofs.lines.put_cut.Tie as tie
@@ -19,7 +19,7 @@ same-length : tie.Need-same-length
 same-length c = search needs
 
 returns : tie.Need-returns
-unfolding cutLine text
+unfolding bytesOfLine text
 returns c =
     let last = c .before .before in
     let first = last .before .before .before .before in

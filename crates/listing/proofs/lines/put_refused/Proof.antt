@@ -1,7 +1,7 @@
 -- `listing::lines::put_refused` meets its contract. The word, the block and the ground stand one after the other.
 use native.Mathlib.Omega.{arith}
 use borrow.Author.Needs.{needs}
-use Rattle.listing.specs.Lines.{text, line, refusedLine}
+use Rattle.listing.specs.Lines.{text, line, bytesOfLine}
 use Rattle.words.proofs.Placing.{three-placed}
 use Rattle.listing.proofs.lines.put_refused.Statement.{statement}
 use Rattle.listing.proofs.lines.put_refused.Tie as tie
@@ -22,7 +22,7 @@ same-length : tie.Need-same-length
 same-length c = search needs
 
 returns : tie.Need-returns
-unfolding refusedLine line text
+unfolding bytesOfLine line text
 returns c =
     let last = c .before .before in
     let second = last .before .before .before .before in
