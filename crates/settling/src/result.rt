@@ -43,6 +43,12 @@ pub struct Charged {
     pub charge: Cents,
 }
 
+// How a row came out: by how much it fell short, and by how much it exceeded what was expected.
+pub struct Balance {
+    pub shortfall: Kilowatts,
+    pub bonus: Kilowatts,
+}
+
 // Bytes of a result of so many rows.
 pub fn result_bytes(rows: usize) -> usize
     requires { ⌜ rows ≤ mostRows ⌝ }
@@ -98,6 +104,19 @@ pub fn charged_at(result: &[u8], i: usize) -> Charged
         bonus: Kilowatts(number64(result, at + 40)),
         charge: Cents(number64(result, at + 48)),
     }
+}
+
+// The shortfall and the bonus that were written for row i.
+pub fn balance_at(result: &[u8], i: usize) -> Balance
+    requires { ⌜ i < mostRows ⌝ }
+    requires { ⌜ resultBytes (i + 1) ≤ length (now result) ⌝ }
+    ensures { λ r. ⌜ r .shortfall .0 ≡ word64 (drop (resultBytes i) (now (result .entry))) 4 ⌝ }
+    ensures { λ r. ⌜ r .bonus .0 ≡ word64 (drop (resultBytes i) (now (result .entry))) 5 ⌝ }
+{
+    let at = SUMMARY_BYTES + RESULT_ROW_BYTES * i;
+    let shortfall = Kilowatts(number64(result, at + 32));
+    let bonus = Kilowatts(number64(result, at + 40));
+    Balance { shortfall, bonus }
 }
 
 // Writes the credit of row i.

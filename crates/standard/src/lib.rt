@@ -16,6 +16,14 @@ pub struct Read {
     pub block: usize,
 }
 
+// Reads what there is of a word or a length, and answers how many bytes that were.
+pub fn read_word(word: &mut [u8]) -> usize
+    ensures { λ r. ⌜ r ≤ length (now (word .exit)) ⌝ }
+{
+    let got = io::read_full(STDIN_FILENO, word);
+    got
+}
+
 // Reads a length and the bytes that are due after it, and no byte more.
 // The kit says of a read how many bytes it brings at most, and not which, nor that it is asked for the whole part.
 pub fn read_next(most: usize, head: &mut [u8], block: &mut [u8]) -> Read
@@ -23,7 +31,7 @@ pub fn read_next(most: usize, head: &mut [u8], block: &mut [u8]) -> Read
     requires { ⌜ most ≤ length (now block) ⌝ }
     ensures { λ r. ⌜ ReadNext most (now (head .exit)) r ⌝ }
 {
-    let length = io::read_full(STDIN_FILENO, head);
+    let length = read_word(head);
     let part = due_part(most, &head[..length], block);
     let due = part.len();
     let got = io::read_full(STDIN_FILENO, part);

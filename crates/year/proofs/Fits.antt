@@ -28,6 +28,7 @@ use Rattle.assessment.specs.Assessment.{
   credits,
   carriedOn,
 }
+use Rattle.assessment.specs.Values.{mostActual}
 use Rattle.assessment.proofs.Promises.{FiguresIn, figures-in, printed-le, numerator-le, denominator-le}
 use Rattle.assessment.proofs.Limits.{limit-le}
 use Rattle.assessment.proofs.Shares.{credits-le}
@@ -140,6 +141,14 @@ module _ (ledger file : List ℕ) where
     new-committed g m =
         let (r, at, e) = from-row g m in
         subst (λ g. g .committed ≤ mostKilowatts) e (s .rows r at .committed)
+
+    -- shortfall and bonus of the rows given
+    pub new-balance : (g : GivenRow) → List·Memᴰ g new → (g .shortfall ≤ mostKilowatts) × (g .bonus ≤ mostActual)
+    unfolding givenOf chargedOf chargedRow
+    new-balance g m =
+        let (r, at, e) = from-row g m in
+        let figures = figures-in (headerOf file .regionWide) (ratioOf (headerOf file) (rowsOf file)) r (s .rows r at) in
+        subst (λ g. (g .shortfall ≤ mostKilowatts) × (g .bonus ≤ mostActual)) e (figures .shortfall, figures .bonus)
 
     -- an account after the interval
     account-fits : (a : Account) → List·Memᴰ a (ledgerOf ledger .accounts) → a .id < 2 ^ 64

@@ -1,0 +1,9 @@
+pub mod AccountLaws
+pub mod RowLaws
+pub mod StepLaws
+pub mod SettledLaws
+pub mod YearLaws
+pub mod Printed
+pub mod Sums
+pub mod Claims
+pub mod Figures
