@@ -10,3 +10,4 @@ pub mod reference;
 pub mod small;
 pub mod streams;
 pub mod sums;
+pub mod vectors;
