@@ -1,9 +1,10 @@
-//! A plain reference for opening, settling and listing, with random cases.
+//! A plain reference for opening, settling, listing and a plant's page, with random cases.
 #![forbid(unsafe_code)]
 
 pub mod layout;
 pub mod listing;
 pub mod outcome;
+pub mod pages;
 pub mod program;
 pub mod random;
 pub mod reference;
