@@ -1,6 +1,7 @@
 //! A plain reference for opening, settling, listing and a plant's page, with random cases.
 #![forbid(unsafe_code)]
 
+pub mod held;
 pub mod layout;
 pub mod listing;
 pub mod outcome;

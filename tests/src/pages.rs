@@ -141,6 +141,15 @@ pub fn with_ids(cases: &[Case]) -> Vec<Case> {
     cases.iter().flat_map(inputs).collect()
 }
 
+/// Each stream with a plant in its middle.
+pub fn with_plants(cases: &[Case]) -> Vec<Case> {
+    let input = |case: &Case| {
+        let roster = roster(&case.stream);
+        with_id(case, roster.get(roster.len() / 2).copied().unwrap_or(11))
+    };
+    cases.iter().map(input).collect()
+}
+
 /// Each stream with an id that it does not have.
 pub fn with_absent_ids(cases: &[Case]) -> Vec<Case> {
     let input = |case: &Case| with_id(case, absent(&roster(&case.stream), 1));
