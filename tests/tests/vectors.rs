@@ -60,9 +60,22 @@ fn lines_that_are_no_case() {
     }
 }
 
-/// A case of each operation but a page, from the reference itself; then with another answer.
+/// Holds a case that the reference answers, and the same case with other answers.
+fn told_apart(given: &str, answer: &str) {
+    let held = |answer: &str| {
+        let line = format!("base {given} = {answer}");
+        vector("a".to_string(), &line).unwrap().hold_reference()
+    };
+    let otherwise = Err("a: the reference answers otherwise".to_string());
+    assert_eq!(held(answer), Ok(()));
+    assert_eq!(held(&format!("{answer}00")), otherwise);
+    if !given.starts_with("list") {
+        assert_eq!(held(&format!("2{answer}")), otherwise);
+    }
+}
+
 #[test]
-fn operations_are_told_apart() {
+fn calls_and_listings_are_held() {
     let block = listing::opening().bytes();
     let file = listing::file(1_000).bytes();
     let mut ledger = vec![7; ledger_bytes(4)];
@@ -74,34 +87,31 @@ fn operations_are_told_apart() {
     assert_eq!(settle(&mut ledger, &file, &mut result), 0);
     let (block, file) = (hex(&block), hex(&file));
     let (settled, result) = (hex(&ledger), hex(&result));
-    let (stream, printed) = (hex(&document()), hex(&npalist(&document())));
-    let held = |line: String| vector("a".to_string(), &line).unwrap().hold_reference();
-    let otherwise = Err("a: the reference answers otherwise".to_string());
-    for (given, answer) in [
-        (format!("open {block} {blank}"), format!("0 {opened}")),
-        (format!("open - {blank}"), format!("1 {blank}")),
-        (
-            format!("settle {opened} {file} {unwritten}"),
-            format!("0 {settled} {result}"),
-        ),
-        (
-            format!("settle {settled} {file} {unwritten}"),
-            format!("10 {settled} {unwritten}"),
-        ),
-        (format!("list {stream}"), printed),
-    ] {
-        assert_eq!(held(format!("base {given} = {answer}")), Ok(()));
-        assert_eq!(held(format!("base {given} = {answer}00")), otherwise);
-        if !given.starts_with("list") {
-            assert_eq!(held(format!("base {given} = 2{answer}")), otherwise);
-        }
-    }
-    let event = "n5,n7 event 01 - 02 03 = 22 01 02 03";
-    let event = vector("a".to_string(), event).unwrap();
+    told_apart(&format!("open {block} {blank}"), &format!("0 {opened}"));
+    told_apart(&format!("open - {blank}"), &format!("1 {blank}"));
+    told_apart(
+        &format!("settle {opened} {file} {unwritten}"),
+        &format!("0 {settled} {result}"),
+    );
+    told_apart(
+        &format!("settle {settled} {file} {unwritten}"),
+        &format!("10 {settled} {unwritten}"),
+    );
+    let stream = document();
+    told_apart(&format!("list {}", hex(&stream)), &hex(&npalist(&stream)));
+}
+
+#[test]
+fn an_event_is_read() {
+    let line = "n5,n7 event 01 - 02 03 = 22 01 02 0304";
+    let event = vector("a".to_string(), line).unwrap();
     assert_eq!(event.rules, "n5,n7");
+    let unsettled = Err("a: no event is settled here".to_string());
+    assert_eq!(event.hold_reference(), unsettled);
     let Operation::Event(call) = event.operation else {
         panic!("it is an event");
     };
     assert_eq!(call.given, [vec![1], vec![], vec![2], vec![3]]);
-    assert_eq!((call.ground, call.left), (22, [vec![1], vec![2], vec![3]]));
+    assert_eq!(call.ground, 22);
+    assert_eq!(call.left, [vec![1], vec![2], vec![3, 4]]);
 }
