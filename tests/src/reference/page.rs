@@ -54,17 +54,8 @@ fn print_year(listing: &Listing, id: Whole, shortfall: Whole, bonus: Whole, out:
     let ledger = read_ledger(listing.ledger()).expect("accepted calls leave a ledger");
     let index = find_account(&ledger, id).expect("the id is on the roster");
     let account = &ledger.accounts[index];
+    let (charged, credited) = (account.charged, account.credited);
     let limit = limit(ledger.terms, account.commitment);
     out.push_str("year,");
-    print_numbers(
-        out,
-        &[
-            id,
-            shortfall,
-            bonus,
-            account.charged,
-            account.credited,
-            limit,
-        ],
-    );
+    print_numbers(out, &[id, shortfall, bonus, charged, credited, limit]);
 }
