@@ -73,7 +73,7 @@ impl Program {
     pub fn new(path: &Path) -> io::Result<Self> {
         static COUNT: AtomicU64 = AtomicU64::new(0);
         let count = COUNT.fetch_add(1, Ordering::Relaxed);
-        let name = format!("npalist-{}-{count}", process::id());
+        let name = format!("npa-program-{}-{count}", process::id());
         let folder = std::env::temp_dir().join(name);
         fs::create_dir_all(&folder)?;
         Ok(Program {

@@ -1,4 +1,4 @@
-//! Opening, settling and listing in plain Rust, written for comparison only.
+//! Opening, settling, listing and a plant's page in plain Rust, written for comparison only.
 //!
 //! Every figure is a whole number of 128 bits, so nothing wraps. A call first
 //! works out everything it will write, and writes only when it accepts.
@@ -11,12 +11,14 @@ mod ledger;
 mod listing;
 mod money;
 mod opening;
+mod page;
 mod settling;
 mod terms;
 mod words;
 
 pub use self::listing::{npalist, Listing, HEADING};
 pub use self::opening::open;
+pub use self::page::npapage;
 pub use self::settling::{pool, settle};
 
 /// A whole number; no figure of the module comes near its ends.

@@ -20,7 +20,7 @@ pub struct Case {
 }
 
 impl Case {
-    fn new(name: impl Into<String>, stream: Vec<u8>) -> Self {
+    pub fn new(name: impl Into<String>, stream: Vec<u8>) -> Self {
         let name = name.into();
         Case { name, stream }
     }

@@ -21,6 +21,9 @@ enum Next<'a> {
     Block(&'a [u8], &'a [u8]),
 }
 
+/// A block that was taken, if it is an accepted file, and the rest of the stream.
+type Taken<'a> = (Option<&'a [u8]>, &'a [u8]);
+
 /// Splits the next block, at most `most` bytes long, from the rest of the stream.
 fn next_block(rest: &[u8], most: usize) -> Next<'_> {
     if rest.is_empty() {
@@ -44,25 +47,11 @@ pub fn npalist(input: &[u8]) -> Vec<u8> {
     let mut out = String::from(HEADING);
     let mut listing = Listing::default();
     let mut rest = input;
-    loop {
-        match next_block(rest, listing.most()) {
-            Next::End if listing.number > 0 => break,
-            Next::End | Next::Cut => {
-                listing.cut(&mut out);
-                break;
-            }
-            Next::TooLong => {
-                listing.too_long(&mut out);
-                break;
-            }
-            Next::Block(block, after) => {
-                let first = listing.number == 0;
-                if listing.block(block, &mut out) != 0 && first {
-                    break;
-                }
-                rest = after;
-            }
+    while let Some((accepted, after)) = listing.next(rest, &mut out) {
+        if let Some(file) = accepted {
+            listing.print_interval(file, &mut out);
         }
+        rest = after;
     }
     out.into_bytes()
 }
@@ -103,20 +92,76 @@ impl Listing {
         &self.ledger
     }
 
-    /// Opens or settles the next block and prints its lines; answers 0 or the ground of refusal.
-    pub fn block(&mut self, block: &[u8], out: &mut String) -> u32 {
+    /// Takes the next block of a stream and prints its line if it is refused or not all there: the block if it is
+    /// an accepted file, and what follows it. Nothing where the stream ends or is not read on.
+    pub(super) fn next<'a>(&mut self, rest: &'a [u8], out: &mut String) -> Option<Taken<'a>> {
+        match next_block(rest, self.most()) {
+            Next::End if self.number > 0 => None,
+            Next::End | Next::Cut => {
+                self.cut(out);
+                None
+            }
+            Next::TooLong => {
+                self.too_long(out);
+                None
+            }
+            Next::Block(block, after) => {
+                let opening = self.number == 0;
+                let accepted = self.take(block, out) == 0;
+                match opening {
+                    true => accepted.then_some((None, after)),
+                    false => Some((accepted.then_some(block), after)),
+                }
+            }
+        }
+    }
+
+    /// Opens or settles the next block and prints the line of a refusal; answers 0 or the ground.
+    fn take(&mut self, block: &[u8], out: &mut String) -> u32 {
         let number = self.number;
         self.number += 1;
         let answer = match number {
             0 => open(block, &mut self.ledger),
             _ => settle(&mut self.ledger, block, &mut self.result),
         };
-        match answer {
-            0 if number == 0 => (),
-            0 => print_interval(out, block, &self.result),
-            ground => print_refusal(out, number, ground),
+        if answer != 0 {
+            print_refusal(out, number, answer);
         }
         answer
+    }
+
+    /// Opens or settles the next block and prints its lines; answers 0 or the ground of refusal.
+    pub fn block(&mut self, block: &[u8], out: &mut String) -> u32 {
+        let opening = self.number == 0;
+        let answer = self.take(block, out);
+        if answer == 0 && !opening {
+            self.print_interval(block, out);
+        }
+        answer
+    }
+
+    /// The row lines of the file that was accepted last, each as interval, id and the row's eight words.
+    pub(super) fn row_lines(&self, file: &[u8]) -> Vec<[Whole; 10]> {
+        let head = read_head(file);
+        let line = |index| {
+            let words = |word| long(&self.result, 8 + 8 * index + word);
+            let mut line = [head.interval; 10];
+            line[1] = read_row(file, &head, index).id;
+            line[2..].copy_from_slice(&[0, 1, 2, 3, 4, 5, 6, 7].map(words));
+            line
+        };
+        (0..head.rows as usize).map(line).collect()
+    }
+
+    /// Prints the lines of the file that was accepted last: its rows, then its pool.
+    fn print_interval(&self, file: &[u8], out: &mut String) {
+        for line in self.row_lines(file) {
+            print_numbers(out, &line);
+        }
+        out.push_str("pool,");
+        let [ratio, charges, credits, carried] = [0, 1, 2, 3].map(|word| long(&self.result, word));
+        let interval = read_head(file).interval;
+        print_numbers(out, &[interval, ratio, charges, credits, carried]);
     }
 
     /// Prints the line of a next block that has too many bytes; answers its ground.
@@ -133,31 +178,17 @@ impl Listing {
 }
 
 /// The line of a stream that ends too early.
-fn print_cut(out: &mut String, number: u64) {
+pub(super) fn print_cut(out: &mut String, number: u64) {
     out.push_str(&format!("cut,{number}\n"));
 }
 
 /// The line of a refused block.
-fn print_refusal(out: &mut String, number: u64, ground: u32) {
+pub(super) fn print_refusal(out: &mut String, number: u64, ground: u32) {
     out.push_str(&format!("refused,{number},{ground}\n"));
 }
 
-/// The lines of an accepted interval: its rows, then its pool.
-fn print_interval(out: &mut String, file: &[u8], result: &[u8]) {
-    let head = read_head(file);
-    for index in 0..head.rows as usize {
-        let id = read_row(file, &head, index).id;
-        let mut line = vec![head.interval, id];
-        line.extend((0..8).map(|word| long(result, 8 + 8 * index + word)));
-        print_numbers(out, &line);
-    }
-    out.push_str("pool,");
-    let pool: Vec<Whole> = (0..4).map(|word| long(result, word)).collect();
-    print_numbers(out, &[&[head.interval], &pool[..]].concat());
-}
-
 /// Numbers with commas between them, as one line.
-fn print_numbers(out: &mut String, numbers: &[Whole]) {
+pub(super) fn print_numbers(out: &mut String, numbers: &[Whole]) {
     let texts: Vec<String> = numbers.iter().map(Whole::to_string).collect();
     out.push_str(&texts.join(","));
     out.push('\n');

@@ -1,5 +1,6 @@
 //! OUTSIDE THE PROOFS: a plain Rust tool. It makes streams for npalist from
-//! readable text, shows streams, ledgers and results as text, and finds faults.
+//! readable text, shows streams, ledgers and results as text, finds faults, and
+//! puts a plant's id before a stream for npapage.
 
 use npatext::{
     check, make, many, show, show_ledger, show_result, tables, text_of, version, Shown, Source, Why,
@@ -19,12 +20,16 @@ usage: npatext COMMAND FILES
   why [STREAM]                every fault of a stream in words
   check STREAM LISTING        whether a file is the whole listing of a stream
   tables STREAM LISTING DIR   rows.csv, pools.csv and refusals.csv of a listing, in a folder
+  page ID [STREAM]            a stream behind the word of a plant's id, for npapage
   --help                      this text
   --version                   the version
 A file named - is standard input, and so is one in [] that is left out.
 The status is 0; it is 1 if something is wrong, which is said: faults that why finds and what check compares on
 standard output, everything else on standard error.
 ";
+
+/// The bytes of a stream that are copied at once.
+const PIECE_BYTES: usize = 65_536;
 
 /// Why a command ends with status 1.
 enum Trouble {
@@ -158,6 +163,25 @@ fn tables_command(stream: &Path, listing: &Path, folder: &Path) -> Done {
     out.end()
 }
 
+/// The word of an id, then the stream as it is.
+fn page_command(id: &str, path: &Path) -> Done {
+    let is_number = id.bytes().all(|byte| byte.is_ascii_digit());
+    let number = id.parse::<u32>().ok().filter(|_| is_number);
+    let most = u32::MAX;
+    let number = number.ok_or_else(|| format!("id `{id}` is not a number from 0 to {most}"))?;
+    let mut stream = Source::of_bytes(path, "stream")?;
+    let mut out = Out::new();
+    out.write(&number.to_le_bytes())?;
+    let mut piece = Vec::new();
+    loop {
+        stream.fill(PIECE_BYTES, &mut piece)?;
+        if piece.is_empty() {
+            return out.end();
+        }
+        out.write(&piece)?;
+    }
+}
+
 /// What a command takes, for the one who gave it something else.
 fn takes(command: &str) -> Option<&'static str> {
     USAGE
@@ -189,6 +213,8 @@ fn run(arguments: &[OsString]) -> Done {
         ("why", [] | [_]) => why_command(one),
         ("check", [stream, listing]) => check_command(stream, listing),
         ("tables", [stream, listing, folder]) => tables_command(stream, listing, folder),
+        ("page", [_]) => page_command(&words[1], Path::new("-")),
+        ("page", [_, stream]) => page_command(&words[1], stream),
         _ => Err(Trouble::Said(match takes(command) {
             Some(takes) => format!("usage: npatext {command} {takes}"),
             None => format!("npatext has no command `{command}`; npatext --help shows all"),

@@ -8,7 +8,9 @@ use npa_tests::listing;
 use npa_tests::reference::{open, settle};
 use std::process::{Command, Stdio};
 
-const COMMANDS: [&str; 7] = ["make", "show", "ledger", "result", "why", "check", "tables"];
+const COMMANDS: [&str; 8] = [
+    "make", "show", "ledger", "result", "why", "check", "tables", "page",
+];
 
 #[test]
 fn help_and_version() {
@@ -48,6 +50,8 @@ fn wrong_usage() {
             &["tables", "a", "b"],
             "usage: npatext tables STREAM LISTING DIR",
         ),
+        (&["page"], "usage: npatext page ID [STREAM]"),
+        (&["page", "1", "a", "b"], "usage: npatext page ID [STREAM]"),
         (
             &["check", "-", "-"],
             "only one of the stream and the listing can be standard input",
@@ -69,6 +73,10 @@ fn wrong_usage() {
             "nowhere: No such file or directory (os error 2)",
         ),
         (&["show", "/"], "/: Is a directory (os error 21)"),
+        (
+            &["page", "1", "nowhere"],
+            "nowhere: No such file or directory (os error 2)",
+        ),
     ] {
         npatext(arguments, b"").fails(error);
     }
@@ -102,6 +110,8 @@ fn wrong_files() {
         (&["show", "marked.txt"], format!("marked.txt {text}")),
         (&["why", "document.txt"], format!("document.txt {text}")),
         (&["why", "document.csv"], "document.csv is a listing, not a stream".to_string()),
+        (&["page", "11", "document.txt"], format!("document.txt {text}")),
+        (&["page", "11", "document.csv"], "document.csv is a listing, not a stream".to_string()),
         (&["ledger", "document.csv"], "document.csv is a listing, not a ledger".to_string()),
         (&["result", "document.txt"], "document.txt is text, not a result".to_string()),
         (
@@ -180,4 +190,6 @@ fn outputs_that_take_no_more() {
     let full = "standard output: No space left on device (os error 28)\n";
     assert_eq!(shell("\"$0\" why \"$1\" >/dev/full"), full);
     assert_eq!(shell("\"$0\" show \"$1\" >/dev/full"), full);
+    assert_eq!(shell("\"$0\" page 1 \"$1\" | head -c 1"), "");
+    assert_eq!(shell("\"$0\" page 1 \"$1\" >/dev/full"), full);
 }

@@ -1,6 +1,6 @@
-//! The samples: every stream is made of its text, and every listing is the reference's.
+//! The samples: every stream is made of its text, and every listing and page is the reference's.
 
-use npa_tests::reference::{npalist, HEADING};
+use npa_tests::reference::{npalist, npapage, HEADING};
 use npa_tests::streams::document;
 use npatext::{make, show};
 use std::collections::{BTreeMap, BTreeSet};
@@ -20,21 +20,41 @@ fn text(name: &str, kind: &str) -> String {
     String::from_utf8(file(name, kind)).expect("the file is text")
 }
 
-/// The samples and the kinds of files that each has.
-fn samples() -> BTreeMap<String, BTreeSet<String>> {
-    let mut samples: BTreeMap<String, BTreeSet<String>> = BTreeMap::new();
+/// The names of files in the folder, and the kinds that each has.
+fn files() -> BTreeMap<String, BTreeSet<String>> {
+    let mut files: BTreeMap<String, BTreeSet<String>> = BTreeMap::new();
     for entry in fs::read_dir(FOLDER).expect("the samples are there") {
         let name = entry.expect("an entry").file_name();
         let name = name.to_string_lossy().to_string();
         match name.split_once('.') {
             Some((name, kind)) if kind != "md" => {
-                let kinds = samples.entry(name.to_string()).or_default();
+                let kinds = files.entry(name.to_string()).or_default();
                 kinds.insert(kind.to_string());
             }
             _ => assert!(["README.md", "make"].contains(&&name[..]), "{name}"),
         }
     }
-    samples
+    files
+}
+
+/// The samples and the kinds of files that each has.
+fn samples() -> BTreeMap<String, BTreeSet<String>> {
+    let mut files = files();
+    files.retain(|name, _| !name.contains("-page-"));
+    files
+}
+
+/// The pages of plants: sample, id and what is printed.
+fn pages() -> Vec<(String, u32, String)> {
+    let mut pages = Vec::new();
+    for (name, kinds) in files() {
+        if let Some((sample, id)) = name.split_once("-page-") {
+            assert!(kinds.iter().eq(["csv"]), "{name}");
+            let id = id.parse().expect("a page has the id of its plant");
+            pages.push((sample.to_string(), id, text(&name, "csv")));
+        }
+    }
+    pages
 }
 
 #[test]
@@ -75,6 +95,41 @@ fn listings_are_the_references() {
         let listing = npalist(&file(name, "stream"));
         assert!(listing == file(name, "csv"), "{name}.csv is another");
     }
+}
+
+#[test]
+fn pages_are_the_references() {
+    let pages = pages();
+    let plants: Vec<_> = pages.iter().map(|(name, id, _)| (&name[..], *id)).collect();
+    assert_eq!(plants, [("afternoon", 15), ("afternoon", 9)]);
+    for (name, id, page) in &pages {
+        let input = [&id.to_le_bytes(), &file(name, "stream")[..]].concat();
+        assert!(
+            npapage(&input) == page.as_bytes(),
+            "{name}-page-{id}.csv is another"
+        );
+    }
+}
+
+/// One plant is charged and the other credited; the lines are the listing's, and the year is their sum.
+#[test]
+fn pages_have_a_charged_and_a_credited_plant() {
+    let years: Vec<Vec<u64>> = pages()
+        .iter()
+        .map(|(name, id, page)| {
+            let rows = lines(page, None);
+            let mut listed = lines(&text(name, "csv"), None);
+            listed.retain(|row| row[1] == u64::from(*id));
+            assert_eq!(rows, listed);
+            let sum = |column: usize| rows.iter().map(|row| row[column]).sum::<u64>();
+            let mut year = lines(page, Some("year,")).pop().expect("a page has a year");
+            let sums: Vec<u64> = (6..10).map(sum).collect();
+            assert_eq!(year[1..5], sums);
+            year.drain(3..).collect()
+        })
+        .collect();
+    assert_eq!(years[0], [491_310_756, 0, 61_389_180_000]);
+    assert_eq!(years[1], [0, 166_001_142, 0]);
 }
 
 /// Input and output stand in document 01.
