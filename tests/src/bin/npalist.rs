@@ -44,6 +44,7 @@ fn run(binary: &str, seed: u64, count: u64) -> Result<String, String> {
     held.hold_unread()?;
     stopped(&mut held, &mut rng)?;
     held.hold_long(&streams::long(&mut rng))?;
+    held.writes_cut_short()?;
     let mut closed = streams::long(&mut rng);
     closed.push(streams::random_stream(&mut rng, 1));
     held.hold_closed(&closed)?;
