@@ -28,7 +28,7 @@
 #include <stdint.h>
 
 /* The version of header and archive. */
-#define NPA_VERSION "1.1.0"
+#define NPA_VERSION "1.2.0"
 #define NPA_VERSION_MAJOR 1
 #define NPA_VERSION_MINOR 1
 #define NPA_VERSION_PATCH 0
