@@ -26,8 +26,7 @@ use Rattle.assessment.specs.Assessment.{Account, accountOf}
 use Rattle.ledger.specs.Ledger.{ledgerOf}
 use Rattle.ledger.specs.Opening.{opening}
 use Rattle.year.specs.Year.{GivenRow, Call, newYear, afterCalls, sumOfPlant, accountByRows}
-use Rattle.year.specs.Claims.{SumsOfAYear}
-use Rattle.year.proofs.Claims.{sums-of-a-year}
+use Rattle.year.proofs.Claims.{kept}
 use Rattle.year.proofs.Books.{found}
 use Rattle.listing.specs.Lines.{heading, RowLine, Line, bytesOfLines}
 use Rattle.listing.specs.Npalist.{rowLine, ledgerBuffer, openingListed, blockListed, mostBytes, listingSteps, nextListed, listed}
@@ -147,12 +146,12 @@ module _ (id : ℕ) (stream : List ℕ) (bytes : Bytes stream) (accepted : opene
   account-sum : (f : RowLine → ℕ) (g : GivenRow → ℕ) → ((interval : ℕ) (r : Row) (b : List ℕ) → figureOn f (rowLine interval (r .id) b) ≡ g (givenAt r b))
       → (held : Account → ℕ) → ((gs : List GivenRow) → held (accountByRows gs id) ≡ sumOfPlant id g gs)
       → held (accountOf id (ledgerOf (listed stream .state) .accounts)) ≡ summed f (linesAbove id stream)
-  unfolding SumsOfAYear onRoster opened openingOf linesAbove mostBytes
+  unfolding onRoster opened openingOf linesAbove mostBytes
   account-sum f g same held is =
       let block = openingOf stream in
       let (calls, zero-ground, ledger, sums) = given-first f g same id (length stream) (nextBlock (mostBytes 0) stream) accepted in
       let y = afterCalls (newYear (opening block ledgerBuffer .ledger)) calls in
-      let accounts = sums-of-a-year block ledgerBuffer (next-bytes (mostBytes 0) stream bytes) zero-ground calls .accounts in
+      let accounts = kept block ledgerBuffer (next-bytes (mostBytes 0) stream bytes) zero-ground calls .sums .accounts in
       let own = found (y .given) id (blockOf block .ids) (found-member id (blockOf block .ids) known) in
       ap (λ o. held (accountOf id (ledgerOf (o .state) .accounts))) listed-is
       ∙ ap (λ b. held (accountOf id (ledgerOf b .accounts))) ledger

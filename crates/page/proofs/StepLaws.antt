@@ -24,8 +24,7 @@ use Rattle.ledger.specs.Ledger.{ledgerOf, idsIn, notALedger}
 use Rattle.ledger.specs.Opening.{opening}
 use Rattle.reading.specs.Block.{Terms, blockOf}
 use Rattle.year.specs.Year.{newYear, afterCalls, accountByRows}
-use Rattle.year.specs.Claims.{SumsOfAYear, NeverRefusedOnSix}
-use Rattle.year.proofs.Claims.{sums-of-a-year, never-refused-on-six}
+use Rattle.year.proofs.Claims.{kept}
 use Rattle.listing.specs.Lines.{RowLine, Line, bytesOfLine, bytesOfLines}
 use Rattle.listing.specs.Npalist.{openingListed, intervalListed, endLines}
 use Rattle.listing.specs.Code.{inBytes, yearIn}
@@ -161,13 +160,13 @@ module _ (l block : List ℕ) where
 
     -- leaves a ledger that ground 6 does not refuse, where the block is one of bytes
     opened-holds : Bytes block → notALedger (opening block l .ledger) ≡ false
-    unfolding NeverRefusedOnSix afterCalls newYear
-    opened-holds bytes = never-refused-on-six block l bytes opened-zero []
+    unfolding afterCalls newYear
+    opened-holds bytes = kept block l bytes opened-zero [] .holds
 
     -- with the ids of the block
     opened-ids : Bytes block → idsIn (ledgerOf (opening block l .ledger)) ≡ blockOf block .ids
-    unfolding SumsOfAYear afterCalls newYear idsIn accountByRows
-    opened-ids bytes = ap (map (λ a. a .id)) (sums-of-a-year block l bytes opened-zero [] .accounts) ∙ ids-same (blockOf block .ids)
+    unfolding afterCalls newYear idsIn accountByRows
+    opened-ids bytes = ap (map (λ a. a .id)) (kept block l bytes opened-zero [] .sums .accounts) ∙ ids-same (blockOf block .ids)
       where
         ids-same : (is : List ℕ) → map (λ a. a .id) (map (accountByRows []) is) ≡ is
         ids-same [] = refl

@@ -20,11 +20,11 @@ use Rattle.reading.specs.Interval.{Row, headerOf, rowsOf}
 use Rattle.ledger.specs.Opening.{opening}
 use Rattle.settling.specs.Settling.{resultHeaderBytes, resultRowBytes, SettlingAnswer, settling}
 use Rattle.year.specs.Year.{Call, GivenRow, GivenInterval, givenFrom, givenBy, intervalBy, Year, newYear, afterAnswer, afterCall, afterCalls, sumOfPlant}
+use Rattle.year.proofs.Calls.{answer-leaves}
 use Rattle.listing.specs.Lines.{RowLine, Line}
 use Rattle.listing.specs.Npalist.{rowLine, rowLines, fileLines, poolLine, intervalLines, resultBuffer, openingListed, intervalListed, blockListed, mostBytes, listingSteps, ledgerBuffer}
 use Rattle.page.specs.Page.{onPage, chosen, figureOn, summed}
 use Rattle.page.proofs.StepLaws.{chosen-append, opened-zero, opened-silent, opening-leaves}
-use Rattle.page.proofs.YearLaws.{answer-leaves}
 use Rattle.page.proofs.Printed.{overNext, summed-append, end-chosen, end-none, listed-block}
 
 -- the row that a file row is given, whose result words begin at the front of b

@@ -1,14 +1,24 @@
 -- What holds of a year holds after any calls if each accepted one keeps it, since a refused one changes nothing.
 use Prim.Native.Nat.{ℕ}
 use mathlib.Core.Path.{_≡_, refl, sym, ap, subst}
-use mathlib.Core.List.{List, [], _∷_}
-use mathlib.Core.Bool.{Bool, true, false}
+use mathlib.Core.List.{List, [], _∷_, _++_}
+use mathlib.Core.Bool.{Bool, true, false, cond}
 use lib.Dec.{eqb}
 use borrow.Author.Tests.{eqb-true}
 use Rattle.words.specs.Grounds.{answered}
-use Rattle.settling.specs.Settling.{settlingGrounds, settling}
+use Rattle.settling.specs.Settling.{settlingGrounds, SettlingAnswer, settling}
 use Rattle.settling.proofs.SettlingAnswers.{settledAnswer, settling-accepts, settling-refuses}
-use Rattle.year.specs.Year.{Call, Year, afterAnswer, afterCall, afterCalls}
+use Rattle.year.specs.Year.{Call, intervalBy, AnyCall, Year, afterAnswer, afterCall, afterCalls, callsOf, afterAll}
+
+-- a call leaves the ledger that it answers with
+pub answer-leaves : (y : Year) (c : Call) (a : SettlingAnswer) → afterAnswer y c a .ledger ≡ a .ledger
+unfolding afterAnswer
+answer-leaves y c a = by (eqb (a .ground) 0)
+  where
+    by : (t : Bool) → cond {A = Year} t (record { ledger = a .ledger; intervals = y .intervals ++ (intervalBy (c .file) (a .result) ∷ []); given = y .given ++ intervalBy (c .file) (a .result) .rows; last = intervalBy (c .file) (a .result) })
+        (record { ledger = a .ledger; intervals = y .intervals; given = y .given; last = y .last }) .ledger ≡ a .ledger
+    by true = refl
+    by false = refl
 
 module _ (P : Year → Type 0)
     (step : (y : Year) (c : Call) → P y → settling (y .ledger) (c .file) (c .result) .ground ≡ 0
@@ -33,3 +43,9 @@ module _ (P : Year → Type 0)
   unfolding afterCalls
   after-calls y [] k = k
   after-calls y (c ∷ calls) k = after-calls (afterCall y c) calls (after-call y c k)
+
+  -- of both sorts too, since an event is a list of calls
+  pub after-all : (y : Year) (calls : List AnyCall) → P y → P (afterAll y calls)
+  unfolding afterAll
+  after-all y [] k = k
+  after-all y (c ∷ calls) k = after-all (afterCalls y (callsOf (y .ledger) c)) calls (after-calls y (callsOf (y .ledger) c) k)

@@ -2,7 +2,7 @@
 use Prim.Native.Nat.{ℕ, _*_, _^_, _<_, _≤_}
 use mathlib.Core.Path.{_≡_, refl, sym, ap, subst}
 use mathlib.Core.Logic.{_⊎_, inl, ⊎-elim}
-use mathlib.Core.List.{List, List·Memᴰ}
+use mathlib.Core.List.{List, [], List·Memᴰ}
 use mathlib.Core.Bool.{Bool, true, false}
 use native.Mathlib.Omega.{arith}
 use lib.ListN.{length, length-map, drop}
@@ -30,7 +30,7 @@ use Rattle.settling.specs.Settling.{
   settledLedger,
   settling,
 }
-use Rattle.year.specs.Year.{Call, newYear, afterCalls}
+use Rattle.year.specs.Year.{Call, AnyCall, newYear, afterCalls, afterAll}
 use Rattle.year.specs.Claims.{
   SummedOverRows,
   SumsOfAYear,
@@ -50,12 +50,12 @@ use Rattle.year.proofs.LedgerBack.{Fits, ledger-words-fit, length-ledge
 use Rattle.year.proofs.Fits.{new-sums, ledger-fits, result-words-fit, interval-made}
 use Rattle.settling.proofs.SettlingAnswers.{settledAnswer, settling-accepts, settling-refuses}
 use Rattle.ledger.proofs.OpeningAnswers.{opening-accepts, opening-refuses}
-use Rattle.year.proofs.Calls.{after-calls}
+use Rattle.year.proofs.Calls.{after-calls, after-all}
 use Rattle.year.proofs.ResultWords.{length-rows-words}
 use Rattle.year.proofs.Step.{Kept, good-block, accept-kept, opened-fits, opened-room, opened-kept}
 
--- a year on a block of bytes, after any calls
-kept : (block ledger : List ℕ) → Bytes block → opening block ledger .ground ≡ 0 → (calls : List Call)
+-- a year on a block of bytes, after any calls of settling
+pub kept : (block ledger : List ℕ) → Bytes block → opening block ledger .ground ≡ 0 → (calls : List Call)
     → Kept block (afterCalls (newYear (opening block ledger .ledger)) calls)
 kept block ledger bytes e calls =
     let s = block-accepted block ledger (opening-none block ledger e) in
@@ -64,15 +64,24 @@ kept block ledger bytes e calls =
     after-calls (Kept block) (λ y c k. accept-kept block bytes (good-block block ledger s) y k c)
     (newYear (opening block ledger .ledger)) calls start
 
+-- and after any of both sorts
+kept-all : (block ledger : List ℕ) → Bytes block → opening block ledger .ground ≡ 0 → (calls : List AnyCall)
+    → Kept block (afterAll (newYear (opening block ledger .ledger)) calls)
+unfolding afterCalls
+kept-all block ledger bytes e calls =
+    let s = block-accepted block ledger (opening-none block ledger e) in
+    after-all (Kept block) (λ y c k. accept-kept block bytes (good-block block ledger s) y k c)
+    (newYear (opening block ledger .ledger)) calls (kept block ledger bytes e [])
+
 -- the sums hold after any list of calls on a freshly opened ledger
 pub sums-of-a-year : SumsOfAYear
 unfolding SumsOfAYear
-sums-of-a-year block ledger bytes e calls = kept block ledger bytes e calls .sums
+sums-of-a-year block ledger bytes e calls = kept-all block ledger bytes e calls .sums
 
 -- ground 6 does not refuse the ledger that any list of calls leaves of a freshly opened one
 pub never-refused-on-six : NeverRefusedOnSix
 unfolding NeverRefusedOnSix
-never-refused-on-six block ledger bytes e calls = kept block ledger bytes e calls .holds
+never-refused-on-six block ledger bytes e calls = kept-all block ledger bytes e calls .holds
 
 -- words that fit are held by a buffer that they are written to
 written-held : (ws b : List ℕ) → Fits ws → Holds ws b (written ws b)

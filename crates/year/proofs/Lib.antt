@@ -9,3 +9,4 @@ pub mod Calls
 pub mod Books
 pub mod Step
 pub mod Claims
+pub mod Events

@@ -2,24 +2,31 @@
 use Prim.Native.Nat.{ℕ, _+_, _*_, _<_, _≤_}
 use mathlib.Core.Path.{_≡_}
 use mathlib.Core.Logic.{_⊎_}
-use mathlib.Core.List.{List, map, List·Memᴰ}
+use mathlib.Core.List.{List, [], _∷_, map, List·Memᴰ}
 use mathlib.Core.Bool.{false}
 use lib.ListN.{length, drop}
 use Rattle.words.specs.Lists.{sum}
-use Rattle.words.specs.Words.{Bytes, word64, wordsIn}
+use Rattle.words.specs.Words.{Bytes, word64, wordsIn, written}
 use Rattle.reading.specs.Block.{blockOf}
 use Rattle.assessment.specs.Assessment.{limit}
 use Rattle.ledger.specs.Ledger.{ledgerOf, ledgerWords, notALedger}
 use Rattle.ledger.specs.Opening.{openedLedger, OpeningAnswer, opening}
 use Rattle.settling.specs.Settling.{resultWords, assessedFile, settledLedger, SettlingAnswer, settling}
+use Rattle.event.specs.Event.{countBytes, EventAnswer, event}
 use Rattle.year.specs.Year.{
   Call,
+  EventCall,
+  AnyCall,
+  eventCalls,
+  resultsLeft,
+  resultsPlaced,
   GivenRow,
   GivenInterval,
   intervalBy,
   Year,
   newYear,
   afterCalls,
+  afterAll,
   sumOfPlant,
   largestOfPlant,
   accountByRows,
@@ -57,17 +64,30 @@ pub record SumsHold (block : List ℕ) (y : Year) : Type 0 where
   -- every row given has an id of the block
   pub known : (g : GivenRow) → Member g (y .given) → Member (g .id) (blockOf block .ids)
 
--- The sums of a year, over every list of settling calls from a freshly opened ledger
+-- The sums of a year, over every list of settling calls, with files and with events, from a freshly opened ledger
 unfoldable pub SumsOfAYear : Type 0
 SumsOfAYear =
     (block ledger : List ℕ) → Bytes block → opening block ledger .ground ≡ 0
-    → (calls : List Call) → SumsHold block (afterCalls (newYear (opening block ledger .ledger)) calls)
+    → (calls : List AnyCall) → SumsHold block (afterAll (newYear (opening block ledger .ledger)) calls)
 
 -- Never refused on ground 6: so it is of the ledger after any such list
 unfoldable pub NeverRefusedOnSix : Type 0
 NeverRefusedOnSix =
     (block ledger : List ℕ) → Bytes block → opening block ledger .ground ≡ 0
-    → (calls : List Call) → notALedger (afterCalls (newYear (opening block ledger .ledger)) calls .ledger) ≡ false
+    → (calls : List AnyCall) → notALedger (afterAll (newYear (opening block ledger .ledger)) calls .ledger) ≡ false
+
+-- an event with an answer is these calls of settling, one after the other
+pub record IsCalls (ledger : List ℕ) (e : EventCall) (a : EventAnswer) (calls : List Call) : Type 0 where
+  -- it leaves the ledger that they leave, whatever was given before
+  pub leaves : (y : Year) → y .ledger ≡ ledger → a .ledger ≡ afterCalls y calls .ledger
+  -- its count is the number of those accepted
+  pub counts : countBytes ≤ length (e .count) → a .count ≡ written (length (resultsLeft ledger calls) ∷ []) (e .count)
+  -- the result of each accepted one stands at its place as that call left it
+  pub results : resultsPlaced (length (resultsLeft ledger calls)) (e .files) (a .result) ≡ resultsLeft ledger calls
+
+-- An event is the calls of settling that it makes: for every ledger and all buffers
+unfoldable pub EventIsCalls : Type 0
+EventIsCalls = (ledger : List ℕ) (e : EventCall) → IsCalls ledger e (event ledger (e .files) (e .result) (e .count)) (eventCalls ledger e)
 
 -- a buffer after words were written to it: each word read back is the number meant, and the bytes beyond are as they
 -- were

@@ -1,14 +1,16 @@
--- A year of settling calls: the intervals and the rows that they gave, read back from the result bytes.
-use Prim.Native.Nat.{ℕ, max}
+-- A year of settling calls, with files and with events: the intervals and the rows that they gave, read back from the result bytes.
+use Prim.Native.Nat.{ℕ, zero, suc, _+_, max}
 use mathlib.Core.List.{List, [], _∷_, _++_}
 use mathlib.Core.Bool.{cond}
-use lib.ListN.{drop}
+use lib.ListN.{length, take, drop}
 use lib.Dec.{ltb, eqb}
 use Rattle.words.specs.Lists.{sum}
 use Rattle.words.specs.Words.{word64}
-use Rattle.reading.specs.Interval.{Row, rowsOf}
+use Rattle.stream.specs.Stream.{Next, nextBlock}
+use Rattle.reading.specs.Interval.{Row, headerOf, rowsOf}
 use Rattle.assessment.specs.Assessment.{Account}
-use Rattle.settling.specs.Settling.{resultHeaderBytes, resultRowBytes, SettlingAnswer, settling}
+use Rattle.settling.specs.Settling.{resultHeaderBytes, resultRowBytes, resultBytes, SettlingAnswer, settling}
+use Rattle.event.specs.Event.{mostLength, countBytes}
 
 -- a settling call: the file and the result buffer that it is handed
 pub record Call : Type 0 where
@@ -75,6 +77,64 @@ afterCall y c = afterAnswer y c (settling (y .ledger) (c .file) (c .result))
 unfoldable pub afterCalls : Year → List Call → Year
 afterCalls y [] = y
 afterCalls y (c ∷ cs) = afterCalls (afterCall y c) cs
+
+-- the calls of settling that what comes next in an event makes: one, with what is left of the result buffer, and those of the later files if it is accepted
+unfoldable pub callsNext : (List ℕ → List ℕ → List ℕ → List Call) → List ℕ → List ℕ → Next → List Call
+callsNext later ledger result (Next.stop e) = []
+callsNext later ledger result (Next.block file rest) =
+    let a = settling ledger file result in
+    let n = resultBytes (headerOf file .rowCount) in
+    record { file = file; result = result } ∷ cond (eqb (a .ground) 0) (later (a .ledger) rest (drop n (a .result))) []
+
+-- the calls that the files of an event make of a ledger, one for each file whose turn comes
+unfoldable pub callsOver : ℕ → List ℕ → List ℕ → List ℕ → List Call
+callsOver zero ledger files result = []
+callsOver (suc budget) ledger files result = callsNext (callsOver budget) ledger result (nextBlock mostLength files)
+
+-- an event: the files, the result buffer and the count buffer that it is handed
+pub record EventCall : Type 0 where
+  pub files : List ℕ
+  pub result : List ℕ
+  pub count : List ℕ
+
+-- a call of either sort
+pub data AnyCall : Type 0 where
+  settle : Call → AnyCall
+  event : EventCall → AnyCall
+
+-- the calls of settling that an event is; none without room for the number of files settled
+unfoldable pub eventCalls : List ℕ → EventCall → List Call
+eventCalls ledger e =
+    cond (ltb (length (e .count)) countBytes) [] (callsOver (length (e .files) + 1) ledger (e .files) (e .result))
+
+-- the calls of settling that a call of either sort is
+unfoldable pub callsOf : List ℕ → AnyCall → List Call
+callsOf ledger (AnyCall.settle c) = c ∷ []
+callsOf ledger (AnyCall.event e) = eventCalls ledger e
+
+-- a year after a list of calls of both sorts
+unfoldable pub afterAll : Year → List AnyCall → Year
+afterAll y [] = y
+afterAll y (c ∷ cs) = afterAll (afterCalls y (callsOf (y .ledger) c)) cs
+
+-- what accepted calls of a list leave in their results, of each as many bytes as its rows take
+unfoldable pub resultsLeft : List ℕ → List Call → List (List ℕ)
+resultsLeft ledger [] = []
+resultsLeft ledger (c ∷ cs) =
+    let a = settling ledger (c .file) (c .result) in
+    cond (eqb (a .ground) 0) (take (resultBytes (headerOf (c .file) .rowCount)) (a .result) ∷ resultsLeft (a .ledger) cs) (resultsLeft (a .ledger) cs)
+
+-- what stands in the result buffer of an event for the file that comes next, and for later ones
+unfoldable pub resultsNext : (List ℕ → List ℕ → List (List ℕ)) → List ℕ → Next → List (List ℕ)
+resultsNext later result (Next.stop e) = []
+resultsNext later result (Next.block file rest) =
+    let n = resultBytes (headerOf file .rowCount) in
+    take n result ∷ later rest (drop n result)
+
+-- what stands in the result buffer of an event for so many files, one after the other
+unfoldable pub resultsPlaced : ℕ → List ℕ → List ℕ → List (List ℕ)
+resultsPlaced zero files result = []
+resultsPlaced (suc n) files result = resultsNext (resultsPlaced n) result (nextBlock mostLength files)
 
 -- rows with bonus: those whose bonus word is above 0
 unfoldable pub rowsWithBonus : List GivenRow → ℕ

@@ -1,0 +1,4 @@
+pub mod FileLaws
+pub mod FilesLaws
+pub mod AnswerLaws
+pub mod Claims

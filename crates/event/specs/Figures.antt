@@ -1,0 +1,2 @@
+-- Worked figures of events.
+use Prim.Native.Nat.{ℕ}

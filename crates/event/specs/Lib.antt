@@ -1,0 +1,4 @@
+pub mod Event
+pub mod Code
+pub mod Claims
+pub mod Figures
