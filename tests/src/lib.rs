@@ -1,6 +1,7 @@
-//! A plain reference for opening, settling and listing, with random cases.
+//! A plain reference for opening, settling, events and listing, with random cases.
 #![forbid(unsafe_code)]
 
+pub mod event_vectors;
 pub mod layout;
 pub mod listing;
 pub mod outcome;

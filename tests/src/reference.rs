@@ -1,4 +1,4 @@
-//! Opening, settling and listing in plain Rust, written for comparison only.
+//! Opening, settling, events and listing in plain Rust, written for comparison only.
 //!
 //! Every figure is a whole number of 128 bits, so nothing wraps. A call first
 //! works out everything it will write, and writes only when it accepts.
@@ -6,6 +6,7 @@
 mod assessment;
 mod block;
 mod curve;
+mod event;
 mod file;
 mod ledger;
 mod listing;
@@ -15,6 +16,7 @@ mod settling;
 mod terms;
 mod words;
 
+pub use self::event::event;
 pub use self::listing::{npalist, Listing, HEADING};
 pub use self::opening::open;
 pub use self::settling::{pool, settle};
