@@ -68,20 +68,11 @@ impl RunningYear {
                 self.last_file.clone_from(&call.file);
             }
         }
-        if rng.one_in(8) {
-            room = rng.index(room + 1);
-        }
-        let short = rng.index(8);
-        let count = if rng.one_in(24) {
-            short
-        } else {
-            rng.pick(&[8, 8, 8, 9, 16])
-        };
         let call = EventCall {
             ledger: before,
             files,
-            result: rng.bytes(room),
-            count: rng.bytes(count),
+            result: some_room(rng, room),
+            count: some_count(rng),
         };
         let mut left = call.clone();
         reference::event(
@@ -145,6 +136,26 @@ impl RunningYear {
         }
         (earliest + rng.pick(&[0, 0, 1, 2, 5])).min(last)
     }
+}
+
+/// A result buffer for an event that needs up to so many bytes, seldom a shorter one.
+fn some_room(rng: &mut Rng, needed: usize) -> Vec<u8> {
+    let length = if rng.one_in(8) {
+        rng.index(needed + 1)
+    } else {
+        needed
+    };
+    rng.bytes(length)
+}
+
+/// A count buffer, seldom too short.
+fn some_count(rng: &mut Rng) -> Vec<u8> {
+    let length = if rng.one_in(24) {
+        rng.index(8)
+    } else {
+        rng.pick(&[8, 8, 8, 9, 16])
+    };
+    rng.bytes(length)
 }
 
 /// A whole year: the opened ledger and the calls that follow.

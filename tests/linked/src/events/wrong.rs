@@ -45,6 +45,74 @@ fn walked(files: &[u8], [ledger, result, count]: [&mut [u8]; 3], over: bool, on:
     answer
 }
 
+/// What is wrong with each, and what it does.
+const WRONG: [(&str, Function<3>); 9] = [
+    ("no count on a refusal", |files, [ledger, result, count]| {
+        let before = count.to_vec();
+        let answer = event(ledger, files, result, count);
+        if answer != 0 {
+            count.copy_from_slice(&before);
+        }
+        answer
+    }),
+    ("22 after 6", |files, [ledger, result, count]| {
+        let bad = settle(&mut ledger.to_vec(), &[], &mut []) == 6;
+        match event(ledger, files, result, count) {
+            22 if bad => 6,
+            answer => answer,
+        }
+    }),
+    ("every result in the same place", |files, buffers| {
+        walked(files, buffers, true, false)
+    }),
+    ("on after a refusal", |files, buffers| {
+        walked(files, buffers, false, true)
+    }),
+    ("20 tested last", |files, [ledger, result, count]| {
+        let (answer, settled) = walk(files, ledger, result, false, false);
+        if count.len() < 8 {
+            return 20;
+        }
+        put_longs(count, 0, &[settled]);
+        answer
+    }),
+    (
+        "20 only where there are files",
+        |files, [ledger, result, count]| match event(ledger, files, result, count) {
+            20 if files.is_empty() => 0,
+            answer => answer,
+        },
+    ),
+    (
+        "a bad ledger refused without files",
+        |files, [ledger, result, count]| match event(ledger, files, result, count) {
+            0 if files.is_empty() => settle(ledger, &[], &mut []) % 7,
+            answer => answer,
+        },
+    ),
+    (
+        "the refused file counted",
+        |files, [ledger, result, count]| {
+            let answer = event(ledger, files, result, count);
+            if let (true, Some(settled)) = (answer != 0 && answer != 20, long_at(count, 0)) {
+                put_longs(count, 0, &[settled + 1]);
+            }
+            answer
+        },
+    ),
+    (
+        "all taken back on a refusal",
+        |files, [ledger, result, count]| {
+            let before = ledger.to_vec();
+            let answer = event(ledger, files, result, count);
+            if answer != 0 {
+                ledger.copy_from_slice(&before);
+            }
+            answer
+        },
+    ),
+];
+
 #[test]
 fn the_right_ones_are_not_found() {
     assert_eq!(compared(PAIR.reference), Ok(()));
@@ -56,73 +124,7 @@ fn the_right_ones_are_not_found() {
 
 #[test]
 fn wrong_ones_are_found() {
-    let wrong: [(&str, Function<3>); 9] = [
-        ("no count on a refusal", |files, [ledger, result, count]| {
-            let before = count.to_vec();
-            let answer = event(ledger, files, result, count);
-            if answer != 0 {
-                count.copy_from_slice(&before);
-            }
-            answer
-        }),
-        ("22 after 6", |files, [ledger, result, count]| {
-            let bad = settle(&mut ledger.to_vec(), &[], &mut []) == 6;
-            match event(ledger, files, result, count) {
-                22 if bad => 6,
-                answer => answer,
-            }
-        }),
-        ("every result in the same place", |files, buffers| {
-            walked(files, buffers, true, false)
-        }),
-        ("on after a refusal", |files, buffers| {
-            walked(files, buffers, false, true)
-        }),
-        ("20 tested last", |files, [ledger, result, count]| {
-            let (answer, settled) = walk(files, ledger, result, false, false);
-            if count.len() < 8 {
-                return 20;
-            }
-            put_longs(count, 0, &[settled]);
-            answer
-        }),
-        (
-            "20 only where there are files",
-            |files, [ledger, result, count]| match event(ledger, files, result, count) {
-                20 if files.is_empty() => 0,
-                answer => answer,
-            },
-        ),
-        (
-            "a bad ledger refused without files",
-            |files, [ledger, result, count]| match event(ledger, files, result, count) {
-                0 if files.is_empty() => settle(ledger, &[], &mut []) % 7,
-                answer => answer,
-            },
-        ),
-        (
-            "the refused file counted",
-            |files, [ledger, result, count]| {
-                let answer = event(ledger, files, result, count);
-                if let (true, Some(settled)) = (answer != 0 && answer != 20, long_at(count, 0)) {
-                    put_longs(count, 0, &[settled + 1]);
-                }
-                answer
-            },
-        ),
-        (
-            "all taken back on a refusal",
-            |files, [ledger, result, count]| {
-                let before = ledger.to_vec();
-                let answer = event(ledger, files, result, count);
-                if answer != 0 {
-                    ledger.copy_from_slice(&before);
-                }
-                answer
-            },
-        ),
-    ];
-    for (name, module) in wrong {
+    for (name, module) in WRONG {
         assert!(compared(module).is_err(), "{name}");
     }
 }
