@@ -3,7 +3,7 @@
  * every buffer, docs/OPERATING.md says how a ledger is kept.
  *
  * A call is lent byte buffers, each a pointer and a length in bytes, at any address. It answers NPA_OK or
- * the first refusal, in the order below, that applies.
+ * the first refusal, in the order below, that applies; npa_event has an order of its own.
  *
  * The caller guarantees, for every call:
  * - each length is true, and no pointer is null, also where the length is 0. The data() of an empty C++ vector may be
@@ -12,8 +12,10 @@
  *
  * The module guarantees:
  * - it reads and writes only within the lengths given, and writes nothing that is lent as const;
- * - a refused call leaves every byte as it was;
- * - bytes of a ledger beyond its last account, and of a result beyond its last row, are never written;
+ * - a refused npa_open or npa_settle leaves every byte as it was. A refused npa_event writes nothing of the refused
+ *   file; what it settled before remains;
+ * - bytes of a ledger beyond its last account, of a result beyond its last row, and of a count beyond its
+ *   NPA_COUNT_BYTES are never written;
  * - it keeps no state between calls, allocates nothing and calls nothing but memcpy and its like, so calls on different
  *   ledgers, each with buffers of its own, may run at once in any number of threads;
  * - a call uses at most NPA_STACK_MOST bytes of stack.
@@ -68,6 +70,10 @@ extern "C" {
 #define NPA_ACCOUNT_BYTES 32
 #define NPA_RESULT_HEADER_BYTES 64
 #define NPA_RESULT_ROW_BYTES 64
+
+/* Of the length before each file of an event, and of the count of files settled. */
+#define NPA_LENGTH_BYTES 4
+#define NPA_COUNT_BYTES 8
 
 /* The most ids of a ledger, rows and points of an interval file, and points of one row. */
 #define NPA_IDS_MOST 512
@@ -222,7 +228,11 @@ enum npa_answer {
     NPA_REFUSED_ROW = 13,         /* a row has a word out of range, or words that contradict each other */
     NPA_REFUSED_POINTS = 14,      /* a row's points are too many, outside the table, out of range or falling */
     NPA_REFUSED_RESULT_ROOM = 15, /* result buffer too short for this many rows */
-    NPA_REFUSED_POOL = 16         /* carried cents and charges together grow too large */
+    NPA_REFUSED_POOL = 16,        /* carried cents and charges together grow too large */
+
+    /* An event: the first before all else, the second for each file before 6. */
+    NPA_REFUSED_COUNT_ROOM = 20,  /* count buffer under 8 bytes */
+    NPA_REFUSED_LENGTH = 22       /* the buffer of files ends within a length or a file */
 };
 
 /*
@@ -255,11 +265,33 @@ uint32_t npa_settle(uint8_t *ledger, size_t ledger_len, const uint8_t *file, siz
                     size_t result_len);
 
 /*
+ * Settles the interval files of an event into a ledger, in order, up to the first that is refused. Answers NPA_OK if
+ * there is none, else the refusal of that file: NPA_REFUSED_LENGTH if it or its length is not wholly there, and then
+ * what npa_settle answers for it. Before all else a count under NPA_COUNT_BYTES bytes is NPA_REFUSED_COUNT_ROOM.
+ *
+ * ledger  is as for npa_settle, and is left as a call of npa_settle for each of the files settled would leave it.
+ * files   is read. Each file stands after its length in bytes, a word of 32 bits (npa_put32(files + at, 0, length)),
+ *         and the next length right after the file. Where there are no bytes no file is settled, and the answer is
+ *         NPA_OK, whatever the ledger.
+ * result  takes one result after another, NPA_RESULT_BYTES(rows) bytes each; a file has the room that those before it
+ *         leave, and NPA_RESULT_MOST bytes a file are enough for any files.
+ * count   gets the number of files settled, a word of 64 bits (npa_get64(count, 0)), on a refusal too.
+ *
+ * After NPA_REFUSED_COUNT_ROOM every byte is as it was. After any other refusal the files before the refused one are
+ * settled: their results stand in result, and the ledger has moved on, so both are saved as after NPA_OK. Of the
+ * refused file, which is number count, counted from 0, nothing is written, and the files behind it were not looked at.
+ * A later call starts at that file; those settled before it would be NPA_REFUSED_PAST.
+ */
+NPA_ANSWERS NPA_NOT_NULL
+uint32_t npa_event(uint8_t *ledger, size_t ledger_len, const uint8_t *files, size_t files_len, uint8_t *result,
+                   size_t result_len, uint8_t *count, size_t count_len);
+
+/*
  * Readers and writers of words, lowest byte first, at any address and on any machine. A word is counted in its own
  * size from where the header, row, point or account begins.
  */
 
-/* A word of 32 bits: of a block, file, row or point. */
+/* A word of 32 bits: of a block, file, row or point, or a length. */
 NPA_ANSWERS NPA_NOT_NULL
 static inline uint32_t npa_get32(const uint8_t *bytes, size_t word)
 {
@@ -275,7 +307,7 @@ static inline int32_t npa_get32_signed(const uint8_t *bytes, size_t word)
     return value <= INT32_MAX ? (int32_t)value : -(int32_t)(UINT32_MAX - value) - 1;
 }
 
-/* A word of 64 bits: of a ledger, account or result. */
+/* A word of 64 bits: of a ledger, account or result, or a count. */
 NPA_ANSWERS NPA_NOT_NULL
 static inline uint64_t npa_get64(const uint8_t *bytes, size_t word)
 {
@@ -341,6 +373,10 @@ static inline const char *npa_answer_text(uint32_t answer)
         return "the result buffer is too short";
     case NPA_REFUSED_POOL:
         return "carried cents and charges together would exceed 1099511627775";
+    case NPA_REFUSED_COUNT_ROOM:
+        return "the count buffer is too short";
+    case NPA_REFUSED_LENGTH:
+        return "the buffer of files ends within a length, or before the file that a length announces";
     default:
         return "no answer of the settlement module";
     }

@@ -147,6 +147,37 @@ static void settle(void)
     hold_row(result, ledger, 1, 5000);
 }
 
+/* Settles the file as an event of one, and once more, when it is refused; then with too short a count. */
+static void event(void)
+{
+    uint8_t block[BLOCK_LEN];
+    uint8_t files[NPA_LENGTH_BYTES + FILE_LEN];
+    uint8_t ledger[NPA_LEDGER_BYTES(ROWS)];
+    uint8_t result[NPA_RESULT_BYTES(ROWS)];
+    uint8_t count[NPA_COUNT_BYTES];
+
+    write_block(block);
+    npa_put32(files, 0, FILE_LEN);
+    write_file(files + NPA_LENGTH_BYTES);
+    hold("answer to opening", 0, npa_open(block, sizeof block, ledger, sizeof ledger), NPA_OK);
+    hold("answer to an event", 0,
+         npa_event(ledger, sizeof ledger, files, sizeof files, result, sizeof result, count, sizeof count), NPA_OK);
+    hold("files settled", 0, npa_get64(count, 0), 1);
+    hold("charge in an event", 0, npa_get64(result + NPA_RESULT_ROW_AT(0), NPA_RESULT_ROW_CHARGE), 30);
+    hold_row(result, ledger, 0, 50000);
+    hold_row(result, ledger, 1, 5000);
+    hold("answer to the event again", 0,
+         npa_event(ledger, sizeof ledger, files, sizeof files, result, sizeof result, count, sizeof count),
+         NPA_REFUSED_PAST);
+    hold("files settled again", 0, npa_get64(count, 0), 0);
+    hold("answer to a cut event", 0,
+         npa_event(ledger, sizeof ledger, files, sizeof files - 1, result, sizeof result, count, sizeof count),
+         NPA_REFUSED_LENGTH);
+    hold("answer with a short count", 0,
+         npa_event(ledger, sizeof ledger, files, sizeof files, result, sizeof result, count, NPA_COUNT_BYTES - 1),
+         NPA_REFUSED_COUNT_ROOM);
+}
+
 /* Words come back as they were written, at any address, and touch no byte beside them. */
 static void words(void)
 {
@@ -177,19 +208,31 @@ static void words(void)
     }
 }
 
+/* Whether an answer is one of the module's. */
+static int has_meaning(uint32_t answer)
+{
+    return strcmp(npa_answer_text(answer), npa_answer_text(UINT32_MAX)) != 0;
+}
+
 int main(int count, char **arguments)
 {
     uint32_t answer;
     (void)arguments;
     if (count > 1) {
-        for (answer = NPA_REFUSED_BLOCK; answer <= NPA_REFUSED_POOL; answer++) {
-            printf("| %u | %s |\n", (unsigned)answer, npa_answer_text(answer));
+        for (answer = NPA_REFUSED_BLOCK; answer <= NPA_REFUSED_LENGTH; answer++) {
+            if (has_meaning(answer)) {
+                printf("| %u | %s |\n", (unsigned)answer, npa_answer_text(answer));
+            }
         }
         return 0;
     }
     hold("text of 0", 0, strcmp(npa_answer_text(NPA_OK), "accepted") == 0, 1);
-    hold("text of 17", 0, strcmp(npa_answer_text(17), npa_answer_text(UINT32_MAX)) == 0, 1);
+    for (answer = NPA_OK; answer < 100; answer++) {
+        hold("meaning of", answer, (uint64_t)has_meaning(answer),
+             answer <= NPA_REFUSED_POOL || answer == NPA_REFUSED_COUNT_ROOM || answer == NPA_REFUSED_LENGTH);
+    }
     settle();
+    event();
     words();
     return 0;
 }

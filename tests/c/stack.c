@@ -1,18 +1,23 @@
 /*
  * Measures the stack that a call uses: a stretch below the caller's frame is painted before the call, and the lowest
- * byte that lost its paint is looked for afterwards. It prints the most that opening and settling used, the caller's
- * own frame included, and fails if that is more than NPA_STACK_MOST.
+ * byte that lost its paint is looked for afterwards. It prints the most that opening, settling and an event used, the
+ * caller's own frame included, and fails if that is more than NPA_STACK_MOST.
  */
 #include "full.h"
 
 #define PAINTED 262144
 #define OWN_FRAME 512
+#define EVENT_FILES 3
 
 static uint8_t block[FULL_BLOCK_LEN];
 static uint8_t file[FULL_FILE_LEN];
 static uint8_t ledger[NPA_LEDGER_BYTES(NPA_IDS_MOST)];
 static uint8_t result[NPA_RESULT_BYTES(NPA_ROWS_MOST)];
 static size_t result_len = sizeof result;
+static uint8_t files[EVENT_FILES * (NPA_LENGTH_BYTES + FULL_FILE_LEN)];
+static uint8_t results[EVENT_FILES * NPA_RESULT_BYTES(NPA_ROWS_MOST)];
+static uint8_t count[NPA_COUNT_BYTES];
+static size_t files_len = sizeof files;
 
 static uint32_t open_full(void)
 {
@@ -22,6 +27,11 @@ static uint32_t open_full(void)
 static uint32_t settle_full(void)
 {
     return npa_settle(ledger, sizeof ledger, file, sizeof file, result, result_len);
+}
+
+static uint32_t settle_event(void)
+{
+    return npa_event(ledger, sizeof ledger, files, files_len, results, sizeof results, count, sizeof count);
 }
 
 /* The stack that a call uses; it must give this answer. */
@@ -51,11 +61,31 @@ static size_t settled(size_t most, uint32_t answer)
     return is > most ? is : most;
 }
 
+/* The most that an event uses: of files to accept from this interval on, the same again, and one cut short. */
+static size_t event_used(uint32_t interval)
+{
+    size_t accepted, refused, cut, most;
+    uint32_t i;
+
+    for (i = 0; i < EVENT_FILES; i++) {
+        uint8_t *at = files + i * (NPA_LENGTH_BYTES + FULL_FILE_LEN);
+        npa_put32(at, 0, FULL_FILE_LEN);
+        write_full_file(at + NPA_LENGTH_BYTES, interval + i, interval + i);
+    }
+    accepted = used("answer to an event", settle_event, NPA_OK);
+    hold("files settled", 0, npa_get64(count, 0), EVENT_FILES);
+    refused = used("answer to an event again", settle_event, NPA_REFUSED_PAST);
+    files_len = FULL_FILE_LEN;
+    cut = used("answer to an event that is cut", settle_event, NPA_REFUSED_LENGTH);
+    most = accepted > refused ? accepted : refused;
+    return most > cut ? most : cut;
+}
+
 int main(void)
 {
     const size_t rows = NPA_FILE_HEADER_BYTES;
     const size_t last_point = sizeof file - NPA_POINT_BYTES;
-    size_t opening, settling = 0;
+    size_t opening, event, settling = 0;
     uint32_t interval;
 
     write_full_block(block);
@@ -65,6 +95,8 @@ int main(void)
         settling = settled(settling, NPA_OK);
     }
     settling = settled(settling, NPA_REFUSED_PAST);
+    event = event_used(interval);
+    interval += EVENT_FILES;
 
     /* Refusals far into the file: in the last row, its points, the room for the result. */
     write_full_file(file, interval, interval);
@@ -84,7 +116,7 @@ int main(void)
     npa_put64(ledger, NPA_LEDGER_ZERO, 1);
     settling = settled(settling, NPA_REFUSED_LEDGER);
 
-    printf("opening %lu, settling %lu of at most %lu bytes of stack\n", (unsigned long)opening,
-           (unsigned long)settling, (unsigned long)NPA_STACK_MOST);
-    return opening > NPA_STACK_MOST || settling > NPA_STACK_MOST;
+    printf("opening %lu, settling %lu, an event %lu of at most %lu bytes of stack\n", (unsigned long)opening,
+           (unsigned long)settling, (unsigned long)event, (unsigned long)NPA_STACK_MOST);
+    return opening > NPA_STACK_MOST || settling > NPA_STACK_MOST || event > NPA_STACK_MOST;
 }

@@ -1,4 +1,4 @@
-//! A plain reference for opening, settling, listing and a plant's page, with random cases.
+//! A plain reference for opening, settling, events, listing and a plant's page, with random cases.
 #![forbid(unsafe_code)]
 
 pub mod held;

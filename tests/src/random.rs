@@ -5,10 +5,12 @@
 
 mod damage;
 mod event;
+mod event_calls;
 mod world;
 mod years;
 
 pub use self::event::event_file;
+pub use self::event_calls::event_call;
 pub use self::world::{rising, some_of, valid_open, valid_settle, World};
 pub use self::years::{stream, year, RunningYear, Year};
 
@@ -195,6 +197,16 @@ pub struct SettleCall {
     pub ledger: Vec<u8>,
     pub file: Vec<u8>,
     pub result: Vec<u8>,
+}
+
+/// The buffers of one call on an event.
+#[derive(Clone, Debug)]
+pub struct EventCall {
+    pub ledger: Vec<u8>,
+    /// Each file after its length.
+    pub files: Vec<u8>,
+    pub result: Vec<u8>,
+    pub count: Vec<u8>,
 }
 
 /// An opening as fields, before it becomes bytes.

@@ -1,4 +1,4 @@
-//! Opening, settling, listing and a plant's page in plain Rust, written for comparison only.
+//! Opening, settling, events, listing and a plant's page in plain Rust, written for comparison only.
 //!
 //! Every figure is a whole number of 128 bits, so nothing wraps. A call first
 //! works out everything it will write, and writes only when it accepts.
@@ -6,6 +6,7 @@
 mod assessment;
 mod block;
 mod curve;
+mod event;
 mod file;
 mod ledger;
 mod listing;
@@ -16,6 +17,7 @@ mod settling;
 mod terms;
 mod words;
 
+pub use self::event::event;
 pub use self::listing::{npalist, Listing, HEADING};
 pub use self::opening::open;
 pub use self::page::npapage;

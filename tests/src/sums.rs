@@ -1,6 +1,6 @@
 //! The sums of a year, as document 01 takes them from the results of accepted calls.
 
-use crate::layout::{self, long_at, word_at, ROW_BYTES};
+use crate::layout::{self, long_at, put_longs, result_bytes, word_at, ROW_BYTES};
 use std::collections::BTreeMap;
 
 /// An accepted call: its file and the bytes around it.
@@ -9,6 +9,15 @@ pub struct Accepted<'a> {
     pub file: &'a [u8],
     pub ledger: &'a [u8],
     pub result: &'a [u8],
+}
+
+/// An event of which so many files were settled, and the bytes around it.
+pub struct SettledEvent<'a> {
+    pub before: &'a [u8],
+    pub files: &'a [u8],
+    pub ledger: &'a [u8],
+    pub result: &'a [u8],
+    pub count: u64,
 }
 
 /// What an accepted call gave one row.
@@ -63,6 +72,16 @@ fn hold(holds: bool, what: &str) -> Result<(), String> {
     } else {
         Err(format!("sums of the year: {what}"))
     }
+}
+
+/// The head of the ledger between two files of an event. No call shows it, so the earliest interval is
+/// that of the file, and the cents carried are those of its result.
+fn between_files(before: &[u8], file: &[u8], result: &[u8]) -> Vec<u8> {
+    let mut ledger = before.to_vec();
+    let earliest = u64::from(short_word(file, 4)) + 1;
+    let carried = long_at(result, 3).expect("the word is there");
+    put_longs(&mut ledger, 24, &[earliest, carried]);
+    ledger
 }
 
 impl Accepted<'_> {
@@ -128,12 +147,41 @@ impl Sums {
 
     /// Adds the rows of an accepted call; what does not hold then, if anything.
     pub fn add(&mut self, call: &Accepted) -> Result<(), String> {
+        self.add_rows(call)?;
+        self.check(call.ledger)
+    }
+
+    /// Adds each settled file of an event as a call of its own; what does not hold then, if anything.
+    pub fn add_event(&mut self, event: &SettledEvent) -> Result<(), String> {
+        let (mut files, mut result) = (event.files, event.result);
+        let mut before = event.before.to_vec();
+        for number in 1..=event.count {
+            let (file, rest) = files[4..].split_at(short_word(files, 0) as usize);
+            let ledger = if number == event.count {
+                event.ledger.to_vec()
+            } else {
+                between_files(&before, file, result)
+            };
+            self.add_rows(&Accepted {
+                before: &before,
+                file,
+                ledger: &ledger,
+                result,
+            })?;
+            files = rest;
+            result = &result[result_bytes(short_word(file, 24) as usize)..];
+            before = ledger;
+        }
+        self.check(event.ledger)
+    }
+
+    /// Adds the rows of an accepted call, and holds its interval to them.
+    fn add_rows(&mut self, call: &Accepted) -> Result<(), String> {
         let rows = call.rows();
         for row in &rows {
             self.add_row(call, row)?;
         }
-        call.interval_holds(&rows)?;
-        self.check(call.ledger)
+        call.interval_holds(&rows)
     }
 
     /// Adds one row to its plant.

@@ -1,14 +1,17 @@
 //! Vectors from outside, as `tests/vectors/README.md` describes them.
 
-use crate::reference::{npalist, npapage, open, settle};
+use crate::reference::{event, npalist, npapage, open, settle};
 use std::path::Path;
 use std::{fs, str};
 
 /// The folder of the vectors.
-const FOLDER: &str = concat!(env!("CARGO_MANIFEST_DIR"), "/vectors");
+pub const FOLDER: &str = concat!(env!("CARGO_MANIFEST_DIR"), "/vectors");
+
+/// Its files with cases.
+pub const FILES: [&str; 2] = ["event-base.txt", "page-base.txt"];
 
 /// What a case calls, with its buffers and the answer.
-#[derive(Debug, PartialEq)]
+#[derive(Clone, Debug, PartialEq)]
 pub enum Operation {
     /// Block and ledger; the ledger that is left.
     Open(Call<2, 1>),
@@ -21,7 +24,7 @@ pub enum Operation {
 }
 
 /// A call with so many buffers, which answers a ground and leaves so many.
-#[derive(Debug, PartialEq)]
+#[derive(Clone, Debug, PartialEq)]
 pub struct Call<const GIVEN: usize, const LEFT: usize> {
     pub given: [Vec<u8>; GIVEN],
     pub ground: u32,
@@ -29,14 +32,14 @@ pub struct Call<const GIVEN: usize, const LEFT: usize> {
 }
 
 /// An input of a program and what it prints.
-#[derive(Debug, PartialEq)]
+#[derive(Clone, Debug, PartialEq)]
 pub struct Print {
     pub input: Vec<u8>,
     pub printed: Vec<u8>,
 }
 
 /// One case.
-#[derive(Debug, PartialEq)]
+#[derive(Clone, Debug, PartialEq)]
 pub struct Vector {
     /// File and line.
     pub name: String,
@@ -45,8 +48,14 @@ pub struct Vector {
     pub operation: Operation,
 }
 
+/// All cases of all files.
+pub fn vectors() -> Result<Vec<Vector>, String> {
+    let files: Result<Vec<_>, _> = FILES.iter().map(|file| cases(file)).collect();
+    files.map(|cases| cases.concat())
+}
+
 /// All cases of a file in the folder.
-pub fn vectors(file: &str) -> Result<Vec<Vector>, String> {
+fn cases(file: &str) -> Result<Vec<Vector>, String> {
     let path = Path::new(FOLDER).join(file);
     let text = fs::read_to_string(path).map_err(|error| format!("{file}: {error}"))?;
     (1..)
@@ -135,24 +144,18 @@ impl Vector {
     /// Holds the reference to the case.
     pub fn hold_reference(&self) -> Result<(), String> {
         let same = match &self.operation {
-            Operation::Open(Call {
-                given,
-                ground,
-                left,
-            }) => {
-                let [block, mut ledger] = given.clone();
-                open(&block, &mut ledger) == *ground && *left == [ledger]
-            }
-            Operation::Settle(Call {
-                given,
-                ground,
-                left,
-            }) => {
-                let [mut ledger, file, mut result] = given.clone();
-                let answer = settle(&mut ledger, &file, &mut result);
-                answer == *ground && *left == [ledger, result]
-            }
-            Operation::Event(_) => return Err(format!("{}: no event is settled here", self.name)),
+            Operation::Open(call) => call.is_answered(|[block, ledger]| {
+                let ground = open(block, ledger);
+                (ground, [&ledger[..]])
+            }),
+            Operation::Settle(call) => call.is_answered(|[ledger, file, result]| {
+                let ground = settle(ledger, file, result);
+                (ground, [&ledger[..], &result[..]])
+            }),
+            Operation::Event(call) => call.is_answered(|[ledger, files, result, count]| {
+                let ground = event(ledger, files, result, count);
+                (ground, [&ledger[..], &result[..], &count[..]])
+            }),
             Operation::List(Print { input, printed }) => npalist(input) == *printed,
             Operation::Page(Print { input, printed }) => npapage(input) == *printed,
         };
@@ -160,5 +163,17 @@ impl Vector {
             true => Ok(()),
             false => Err(format!("{}: the reference answers otherwise", self.name)),
         }
+    }
+}
+
+impl<const GIVEN: usize, const LEFT: usize> Call<GIVEN, LEFT> {
+    /// Whether a function answers the ground and leaves the buffers of this call.
+    fn is_answered(
+        &self,
+        function: impl for<'a> FnOnce(&'a mut [Vec<u8>; GIVEN]) -> (u32, [&'a [u8]; LEFT]),
+    ) -> bool {
+        let mut given = self.given.clone();
+        let (ground, left) = function(&mut given);
+        ground == self.ground && left == self.left.each_ref().map(|left| &left[..])
     }
 }

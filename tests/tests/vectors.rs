@@ -1,30 +1,62 @@
 //! The reference gives every answer of the vectors from outside.
 
-use npa_tests::layout::{hex, ledger_bytes, result_bytes};
+use npa_tests::layout::{hex, ledger_bytes, result_bytes, stream_of};
 use npa_tests::listing;
-use npa_tests::reference::{npalist, open, settle};
+use npa_tests::reference::{event, npalist, open, settle};
 use npa_tests::streams::document;
-use npa_tests::vectors::{vector, vectors, Operation, Vector};
+use npa_tests::vectors::{vector, vectors, Operation, FILES, FOLDER};
+use std::collections::BTreeMap;
+use std::fs;
 
 /// The rules that the reference has.
 const RULES: &str = "base";
 
-/// Holds the reference to all cases of a file.
-fn hold(file: &str) -> Vec<Vector> {
-    let vectors = vectors(file).unwrap();
-    for vector in &vectors {
-        assert_eq!(vector.rules, RULES, "{}", vector.name);
-        vector.hold_reference().unwrap();
+/// The ground, if the case has one.
+fn ground(operation: &Operation) -> Option<u32> {
+    match operation {
+        Operation::Open(call) => Some(call.ground),
+        Operation::Settle(call) => Some(call.ground),
+        Operation::Event(call) => Some(call.ground),
+        Operation::List(_) | Operation::Page(_) => None,
     }
-    vectors
+}
+
+/// What the case calls.
+fn operation_name(operation: &Operation) -> &'static str {
+    match operation {
+        Operation::Open(_) => "open",
+        Operation::Settle(_) => "settle",
+        Operation::Event(_) => "event",
+        Operation::List(_) => "list",
+        Operation::Page(_) => "page",
+    }
 }
 
 #[test]
-fn pages() {
-    let vectors = hold("page-base.txt");
-    assert_eq!(vectors.len(), 250);
-    let is_page = |vector: &Vector| matches!(vector.operation, Operation::Page(_));
-    assert!(vectors.iter().all(is_page));
+fn the_reference_gives_every_case() {
+    let (mut counts, mut grounds) = (BTreeMap::new(), BTreeMap::new());
+    for vector in vectors().unwrap() {
+        assert_eq!(vector.rules, RULES, "{}", vector.name);
+        vector.hold_reference().unwrap();
+        let name = operation_name(&vector.operation);
+        *counts.entry(name).or_insert(0) += 1;
+        if let Some(ground) = ground(&vector.operation) {
+            *grounds.entry((name, ground)).or_insert(0) += 1;
+        }
+    }
+    assert_eq!(counts, BTreeMap::from([("event", 250), ("page", 250)]));
+    for met in [0, 6, 7, 15, 20, 22].map(|ground| ("event", ground)) {
+        assert!(grounds.contains_key(&met), "{met:?}");
+    }
+}
+
+#[test]
+fn every_file_of_the_folder_is_read() {
+    let names = fs::read_dir(FOLDER).unwrap();
+    let names = names.map(|entry| entry.unwrap().file_name().into_string().unwrap());
+    let mut cases: Vec<String> = names.filter(|name| name != "README.md").collect();
+    cases.sort();
+    assert_eq!(cases, FILES);
 }
 
 /// What is said of a line.
@@ -68,19 +100,26 @@ fn told_apart(given: &str, answer: &str) {
     };
     let otherwise = Err("a: the reference answers otherwise".to_string());
     assert_eq!(held(answer), Ok(()));
-    assert_eq!(held(&format!("{answer}00")), otherwise);
+    let longer = answer.strip_suffix('-').unwrap_or(answer);
+    assert_eq!(held(&format!("{longer}00")), otherwise);
     if !given.starts_with("list") {
         assert_eq!(held(&format!("2{answer}")), otherwise);
     }
+}
+
+/// The ledger of document 01's listing, opened.
+fn opened() -> Vec<u8> {
+    let mut ledger = vec![7; ledger_bytes(4)];
+    assert_eq!(open(&listing::opening().bytes(), &mut ledger), 0);
+    ledger
 }
 
 #[test]
 fn calls_and_listings_are_held() {
     let block = listing::opening().bytes();
     let file = listing::file(1_000).bytes();
-    let mut ledger = vec![7; ledger_bytes(4)];
-    let blank = hex(&ledger);
-    assert_eq!(open(&block, &mut ledger), 0);
+    let blank = hex(&vec![7; ledger_bytes(4)]);
+    let mut ledger = opened();
     let opened = hex(&ledger);
     let mut result = vec![7; result_bytes(4)];
     let unwritten = hex(&result);
@@ -102,12 +141,28 @@ fn calls_and_listings_are_held() {
 }
 
 #[test]
+fn events_are_held() {
+    let files = stream_of(&[&listing::file(1_000).bytes()]);
+    let (mut ledger, mut result) = (opened(), vec![7; result_bytes(4)]);
+    let (before, unwritten) = (hex(&ledger), hex(&result));
+    let mut count = vec![7; 9];
+    assert_eq!(event(&mut ledger, &files, &mut result, &mut count), 0);
+    let [files, ledger, result] = [&files, &ledger, &result].map(hex);
+    told_apart(
+        &format!("event {before} {files} {unwritten} {}", "07".repeat(9)),
+        &format!("0 {ledger} {result} {}", hex(&count)),
+    );
+    told_apart(
+        &format!("event {before} {files} {unwritten} -"),
+        &format!("20 {before} {unwritten} -"),
+    );
+}
+
+#[test]
 fn an_event_is_read() {
     let line = "n5,n7 event 01 - 02 03 = 22 01 02 0304";
     let event = vector("a".to_string(), line).unwrap();
     assert_eq!(event.rules, "n5,n7");
-    let unsettled = Err("a: no event is settled here".to_string());
-    assert_eq!(event.hold_reference(), unsettled);
     let Operation::Event(call) = event.operation else {
         panic!("it is an event");
     };

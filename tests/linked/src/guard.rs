@@ -11,8 +11,8 @@ use std::{ptr, slice};
 
 /// A page of x86-64, for which the archive is made.
 const PAGE: usize = 4096;
-/// The most bytes of a buffer.
-const ROOM: usize = 1 << 20;
+/// The most bytes of a buffer: more than 50 of the largest files, each after its length.
+const ROOM: usize = 4 << 20;
 /// Bytes that always trap, on either side of the room.
 const APART: usize = 5 << 30;
 

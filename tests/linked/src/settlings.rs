@@ -126,7 +126,7 @@ fn random(rng: &mut Rng, number: u64) -> Call<2> {
 }
 
 /// Mostly a small one.
-fn some_size(rng: &mut Rng) -> Size {
+pub(crate) fn some_size(rng: &mut Rng) -> Size {
     match rng.below(32) {
         0 => FULL,
         1..=4 => MIDDLE,

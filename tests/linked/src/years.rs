@@ -46,7 +46,7 @@ pub fn compare(settling: &mut Comparison<2>, seed: u64, count: u64) -> Result<Ye
 }
 
 /// How large a year may be, and its number of calls.
-fn some_length(rng: &mut Rng) -> (Size, u64) {
+pub(crate) fn some_length(rng: &mut Rng) -> (Size, u64) {
     match rng.below(12) {
         0 => (FULL, 1 + rng.below(12)),
         1..=3 => (MIDDLE, 1 + rng.below(120)),
@@ -56,7 +56,11 @@ fn some_length(rng: &mut Rng) -> (Size, u64) {
 }
 
 /// Opens a year by the module; its sums so far.
-fn open(opening: &mut Comparison<1>, year: &RunningYear, place: Place) -> Result<Sums, String> {
+pub(crate) fn open(
+    opening: &mut Comparison<1>,
+    year: &RunningYear,
+    place: Place,
+) -> Result<Sums, String> {
     let call = Call {
         read: year.block.clone(),
         written: [year.unopened.clone()],
@@ -69,7 +73,7 @@ fn open(opening: &mut Comparison<1>, year: &RunningYear, place: Place) -> Result
 }
 
 /// Settles a file by the module and adds what it gives; whether it is accepted.
-fn settle(
+pub(crate) fn settle(
     settling: &mut Comparison<2>,
     call: &Call<2>,
     place: Place,

@@ -1,7 +1,7 @@
 //! Years of calls, and streams of them.
 
 use super::{cut, damage_settle, first_made, open_call, settle_counts_fit};
-use super::{Rng, SettleCall, SettleCase, Size, World};
+use super::{EventCall, Rng, SettleCall, SettleCase, Size, World};
 use crate::layout::{
     ledger_bytes, long_at, push_block, result_bytes, IntervalFile, Ledger, BLOCK_MOST, FILE_MOST,
 };
@@ -43,14 +43,54 @@ impl RunningYear {
 
     /// The next call, with the ledger as it was before; the year moves on.
     pub fn next_call(&mut self, rng: &mut Rng, size: &Size) -> SettleCall {
-        let call = first_made("a call with small counts", || {
-            let call = self.some_call(rng, size);
-            settle_counts_fit(&call, size).then_some(call)
-        });
+        let call = self.small_call(rng, size);
         self.last_file.clone_from(&call.file);
         let mut result = call.result.clone();
         reference::settle(&mut self.ledger, &call.file, &mut result);
         call
+    }
+
+    /// The next event, with the ledger as it was before; the year moves on as far as files are settled.
+    ///
+    /// In one half of the events every file is one to accept, unless the room ends. In the other half
+    /// there are refused ones; a file behind them would be accepted if they were passed over.
+    pub fn next_event(&mut self, rng: &mut Rng, size: &Size, most: usize) -> EventCall {
+        let before = self.ledger.clone();
+        let accepted_alone = rng.one_in(2);
+        let (mut files, mut room) = (Vec::new(), 0);
+        for _ in 0..rng.index(most + 1) {
+            let call = self.small_call(rng, size);
+            let mut result = call.result.clone();
+            let answer = reference::settle(&mut self.ledger, &call.file, &mut result);
+            if answer == 0 || !accepted_alone {
+                push_block(&mut files, &call.file);
+                room += call.result.len();
+                self.last_file.clone_from(&call.file);
+            }
+        }
+        let call = EventCall {
+            ledger: before,
+            files,
+            result: some_room(rng, room),
+            count: some_count(rng),
+        };
+        let mut left = call.clone();
+        reference::event(
+            &mut left.ledger,
+            &left.files,
+            &mut left.result,
+            &mut left.count,
+        );
+        self.ledger = left.ledger;
+        call
+    }
+
+    /// A call whose counts are not too large for this size.
+    fn small_call(&self, rng: &mut Rng, size: &Size) -> SettleCall {
+        first_made("a call with small counts", || {
+            let call = self.some_call(rng, size);
+            settle_counts_fit(&call, size).then_some(call)
+        })
     }
 
     /// Whether no interval is left to settle.
@@ -96,6 +136,26 @@ impl RunningYear {
         }
         (earliest + rng.pick(&[0, 0, 1, 2, 5])).min(last)
     }
+}
+
+/// A result buffer for an event that needs up to so many bytes, seldom a shorter one.
+fn some_room(rng: &mut Rng, needed: usize) -> Vec<u8> {
+    let length = if rng.one_in(8) {
+        rng.index(needed + 1)
+    } else {
+        needed
+    };
+    rng.bytes(length)
+}
+
+/// A count buffer, seldom too short.
+fn some_count(rng: &mut Rng) -> Vec<u8> {
+    let length = if rng.one_in(24) {
+        rng.index(8)
+    } else {
+        rng.pick(&[8, 8, 8, 9, 16])
+    };
+    rng.bytes(length)
 }
 
 /// A whole year: the opened ledger and the calls that follow.

@@ -1,11 +1,12 @@
-//! `bench` times settling by the module and by the ordinary program of docs/src, on the same files.
+//! `bench` times settling by the module and by the ordinary program of docs/src, on the same files; then an
+//! event beside the same files settled one by one, both by the module.
 //!
 //! Each case is a stream of accepted files, settled from an opened ledger. Both leave the same
 //! bytes after every file, which is checked first. Rounds of the two take turns. The time of a
 //! stretch of files is the least of all rounds, so that other work on the machine hardly counts.
 
 use npa_linked::npa;
-use npa_tests::layout::{ledger_bytes, result_bytes, Opening, IDS_MOST, ROWS_MOST};
+use npa_tests::layout::{ledger_bytes, push_block, result_bytes, Opening, IDS_MOST, ROWS_MOST};
 use npa_tests::listing::{DAYS, NET_CONE};
 use npa_tests::outcome::shown;
 use npa_tests::random::{event_file, rising, some_of, Rng};
@@ -19,6 +20,9 @@ const STRETCH: usize = 50;
 /// How long the rounds of a case go on, and the least number of them.
 const CASE_TIME: Duration = Duration::from_millis(1_500);
 const ROUNDS_LEAST: u32 = 10;
+
+/// The files of the event.
+const EVENT_FILES: usize = 100;
 
 type Settle = fn(&mut [u8], &[u8], &mut [u8]) -> u32;
 
@@ -128,6 +132,106 @@ impl Case {
     }
 }
 
+/// An event of full files, and the buffers that both ways of settling it are lent.
+struct Event {
+    /// The ledger as it is opened.
+    opened: Vec<u8>,
+    ledger: Vec<u8>,
+    files: Vec<u8>,
+    /// The bytes of one file and of one result; all files have the same.
+    file_length: usize,
+    result_length: usize,
+    result: Vec<u8>,
+    count: [u8; 8],
+}
+
+impl Event {
+    fn new() -> Self {
+        let case = Case::new(ROWS_MOST, Among::Few);
+        let mut files = Vec::new();
+        for file in &case.files[..EVENT_FILES] {
+            push_block(&mut files, file);
+        }
+        let result_length = result_bytes(ROWS_MOST);
+        Event {
+            opened: case.ledger.clone(),
+            ledger: case.ledger,
+            file_length: files.len() / EVENT_FILES - 4,
+            files,
+            result_length,
+            result: vec![0; EVENT_FILES * result_length],
+            count: [0; 8],
+        }
+    }
+
+    /// Settles all files in one call.
+    fn at_once(&mut self) {
+        let answer = npa::event(
+            &mut self.ledger,
+            &self.files,
+            &mut self.result,
+            &mut self.count,
+        );
+        assert_eq!(answer, 0);
+    }
+
+    /// Settles each file by a call of its own, into its own place of the same result buffer.
+    fn one_by_one(&mut self) {
+        let files = self.files.chunks(4 + self.file_length);
+        for (file, result) in files.zip(self.result.chunks_mut(self.result_length)) {
+            assert_eq!(npa::settle(&mut self.ledger, &file[4..], result), 0);
+        }
+    }
+
+    /// Settles from the opened ledger; lowers the time to that of this round.
+    fn round(&mut self, settle: fn(&mut Self), least: &mut Duration) {
+        self.ledger.copy_from_slice(&self.opened);
+        let start = Instant::now();
+        settle(self);
+        *least = start.elapsed().min(*least);
+    }
+
+    /// What both leave must be the same.
+    fn check(&mut self) -> Result<(), String> {
+        let ways: [fn(&mut Self); 2] = [Event::at_once, Event::one_by_one];
+        let [at_once, one_by_one] = ways.map(|settle| {
+            self.result.fill(0);
+            let mut time = Duration::MAX;
+            self.round(settle, &mut time);
+            (self.ledger.clone(), self.result.clone())
+        });
+        if at_once != one_by_one || self.count != (EVENT_FILES as u64).to_le_bytes() {
+            return Err("an event leaves other bytes than its files one by one".into());
+        }
+        Ok(())
+    }
+
+    /// The microseconds a file of both; rounds of the two take turns.
+    fn times(&mut self) -> [f64; 2] {
+        let [mut at_once, mut one_by_one] = [Duration::MAX; 2];
+        let start = Instant::now();
+        let mut rounds = 0;
+        while rounds < ROUNDS_LEAST || start.elapsed() < CASE_TIME {
+            self.round(Event::at_once, &mut at_once);
+            self.round(Event::one_by_one, &mut one_by_one);
+            rounds += 1;
+        }
+        [at_once, one_by_one].map(|least| 1e6 * least.as_secs_f64() / EVENT_FILES as f64)
+    }
+}
+
+/// Prints the times of an event.
+fn time_event() -> Result<String, String> {
+    let mut event = Event::new();
+    event.check()?;
+    let [at_once, one_by_one] = event.times();
+    let ratio = at_once / one_by_one;
+    Ok(format!(
+        "an event of {EVENT_FILES} files of {ROWS_MOST} rows, microseconds a file\n\
+         at once  one by one  ratio\n{at_once:7.2}{one_by_one:12.2}{ratio:7.2}"
+    ))
+}
+
 fn main() -> ExitCode {
     println!("settling {FILES} files with {ROW_POINTS} points a row, microseconds a file");
     println!("rows  accounts                  module  ordinary  ratio");
@@ -150,5 +254,5 @@ fn main() -> ExitCode {
         let ratio = module / ordinary;
         println!("{}{module:8.2}{ordinary:10.2}{ratio:7.2}", case.name());
     }
-    ExitCode::SUCCESS
+    shown(time_event())
 }
