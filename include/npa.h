@@ -32,7 +32,7 @@
 /* The version of header and archive. */
 #define NPA_VERSION "1.2.0"
 #define NPA_VERSION_MAJOR 1
-#define NPA_VERSION_MINOR 1
+#define NPA_VERSION_MINOR 2
 #define NPA_VERSION_PATCH 0
 
 /*
