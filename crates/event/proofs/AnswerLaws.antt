@@ -43,7 +43,11 @@ module _ (ledger files result count : List ℕ) where
   long-answer after put counted v room settled writes =
       let is = sym (with-room room) in (
         settled .ground ∙ ap (λ e. e .ground) is,
-        (settled .leaves ∙ ap (λ e. e .ledger) is,
-        (settled .puts ∙ ap (λ e. e .result) is,
-        writes ∙ ap (λ n. written (n ∷ []) count) (settled .files) ∙ ap (λ e. e .count) is)),
+        (
+          settled .leaves ∙ ap (λ e. e .ledger) is,
+          (
+            settled .puts ∙ ap (λ e. e .result) is,
+            writes ∙ ap (λ n. written (n ∷ []) count) (settled .files) ∙ ap (λ e. e .count) is,
+          ),
+        ),
       )

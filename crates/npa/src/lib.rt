@@ -30,7 +30,12 @@ pub extern "C" fn npa_settle(ledger: &mut [u8], file: &[u8], result: &mut [u8]) 
 // Settles an event: answers 0, or the ground of the first file refused, and leaves what was settled before it; or 20 where
 // there is no room for the number of files settled, and leaves every buffer as it was.
 #[no_mangle]
-pub extern "C" fn npa_event(ledger: &mut [u8], files: &[u8], result: &mut [u8], count: &mut [u8]) -> u32
+pub extern "C" fn npa_event(
+    ledger: &mut [u8],
+    files: &[u8],
+    result: &mut [u8],
+    count: &mut [u8],
+) -> u32
     ensures answer { λ r. ⌜ r ≡ event (now (ledger .entry)) (now (files .entry)) (now (result .entry)) (now (count .entry)) .ground ⌝ }
     ensures ledger_bytes { λ r. ⌜ now (ledger .exit) ≡ event (now (ledger .entry)) (now (files .entry)) (now (result .entry)) (now (count .entry)) .ledger ⌝ }
     ensures result_bytes { λ r. ⌜ now (result .exit) ≡ event (now (ledger .entry)) (now (files .entry)) (now (result .entry)) (now (count .entry)) .result ⌝ }

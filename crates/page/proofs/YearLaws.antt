@@ -2,7 +2,7 @@
 use Prim.Native.Nat.{ℕ}
 use mathlib.Core.Path.{_≡_, refl, sym, ap, _∙_}
 use mathlib.Core.List.{List, [], _∷_, _++_}
-use mathlib.Core.Bool.{true}
+use mathlib.Core.Bool.{true, false}
 use Rattle.words.specs.Words.{Bytes}
 use Rattle.stream.specs.Code.{StepTaken}
 use Rattle.stream.specs.declared.Taken.{Taken}

@@ -77,11 +77,11 @@ module _ (y : Year) (ledger file rest result : List ℕ) (is : y .ledger ≡ led
         leaves = below .leaves;
         counts = rw on (add-one (later .files) ∙ ap suc (below .counts));
         results = rw on (
-          ap (λ k. resultsPlaced k files (take n (a .result) ++ later .result)) (add-one (later .files))
-          ∙ ap (resultsNext (resultsPlaced (later .files)) (take n (a .result) ++ later .result)) next
-          ∙ ap₂ (λ f b. f ∷ resultsPlaced (later .files) rest b) front back
-          ∙ ap (λ rs. take n (a .result) ∷ rs) (below .results)
-        );
+            ap (λ k. resultsPlaced k files (take n (a .result) ++ later .result)) (add-one (later .files))
+            ∙ ap (resultsNext (resultsPlaced (later .files)) (take n (a .result) ++ later .result)) next
+            ∙ ap₂ (λ f b. f ∷ resultsPlaced (later .files) rest b) front back
+            ∙ ap (λ rs. take n (a .result) ∷ rs) (below .results)
+            );
       }
 
 -- what is known of files with a budget of turns

@@ -12,7 +12,7 @@ sub-left : tie.Need-sub-left
 sub-left c = search needs
 
 returns : tie.Need-returns
-returns c = 
+returns c =
     let s = c .before .before in
     record { next = cut-length _ _ (s .pre) (omega arith); after-length = λ z. never z; ends-later = omega arith; within = omega arith }
 
@@ -23,7 +23,7 @@ number32-requires : tie.Need-number32-requires
 number32-requires c κs = search needs
 
 returns-2 : tie.Need-returns-2
-returns-2 c = 
+returns-2 c =
     let word = c .before in
     let s = word .before .before .before in
     record {
@@ -38,7 +38,7 @@ add-t6 c = search needs
 
 returns-3 : tie.Need-returns-3
 unfolding fileAt
-returns-3 c = 
+returns-3 c =
     let word = c .before in
     let s = word .before .before .before in
     record {

@@ -24,7 +24,7 @@ same-length-3 : tie.Need-same-length-3
 same-length-3 c = search needs
 
 returns-2 : tie.Need-returns-2
-returns-2 c = 
+returns-2 c =
     let put = c .before .before in
     let files = put .before .before .before .before .before .before in
     long-answer _ _ _ _ _ _ _ _ (omega arith) (files .settle-files .ensures) (put .put64 .ensures)

@@ -11,7 +11,7 @@ use Rattle.event.proofs.settle_files.Statement.{statement}
 use Rattle.event.proofs.settle_files.Tie as tie
 
 abbrev Inv-loop : tie.InvT-loop
-Inv-loop ledger₀ files result₀ settled₀ at₀ filled₀ ledger result settled at filled = 
+Inv-loop ledger₀ files result₀ settled₀ at₀ filled₀ ledger result settled at filled =
     Going (settledFiles (length files + 1) ledger₀ files result₀) files ledger result settled at filled
     × (length ledger ≡ length ledger₀)
     × (length result ≡ length result₀)
@@ -32,7 +32,7 @@ same-length-2 : tie.Need-same-length-2 Inv-loop μ-loop
 same-length-2 c = search needs
 
 returns : tie.Need-returns Inv-loop μ-loop
-returns c = 
+returns c =
     let next = c .before .before in
     going-cut (next .before .before .loop .inv .0) _ (next .next-file .ensures) (not-true _ (c .if1 .taken))
 
@@ -55,7 +55,7 @@ same-length-4 : tie.Need-same-length-4 Inv-loop μ-loop
 same-length-4 c = search needs
 
 returns-2 : tie.Need-returns-2 Inv-loop μ-loop
-returns-2 c = 
+returns-2 c =
     let settle = c .before .before .before .before .before .before in
     let arm = settle .before .before .before .before in
     let next = arm .before .before in
@@ -65,7 +65,7 @@ add-settled : tie.Need-add-settled Inv-loop μ-loop
 add-settled c = search needs
 
 loop-less : tie.Need-loop-less Inv-loop μ-loop
-loop-less c = 
+loop-less c =
     let settle = c .before .before .before .before .before .before in
     let arm = settle .before .before .before .before in
     let next = arm .before .before in
@@ -73,7 +73,7 @@ loop-less c =
     omega (arith, due .after-length (not-false _ (arm .if1 .left)), due .ends-later, due .within)
 
 loop-again : tie.Need-loop-again Inv-loop μ-loop
-loop-again c = 
+loop-again c =
     let settle = c .before .before .before .before .before .before in
     let arm = settle .before .before .before .before in
     let next = arm .before .before in

@@ -50,7 +50,7 @@ same-length-2 : tie.Need-same-length-2
 same-length-2 c = search needs
 
 returns : tie.Need-returns
-returns c = 
+returns c =
     let settle = c .before .before .before .before .before in
     let s = settle .before .before .before .before .before .before in
     turn-taken _ _ (s .args .result .now) (s .args .filled) _ _ _ (s .pre) (settle .settle-file .ensures .0) (settle .settle-file .ensures .1 .0) (settle .settle-file .ensures .1 .1)
@@ -72,7 +72,7 @@ same-length-4 : tie.Need-same-length-4
 same-length-4 c = search needs
 
 returns-2 : tie.Need-returns-2
-returns-2 c = 
+returns-2 c =
     let header = c .before in
     let settle = header .before .before .before .before .before .before in
     let s = settle .before .before .before .before .before .before in
