@@ -1,5 +1,6 @@
--- Limits and charges, each a product over a divisor, rounded down: how they rise, what they are at most, and the cut of a charge.
-use Prim.Native.Nat.{ℕ, zero, suc, _-_, _*_, _/_, _≤_, _<_, max}
+-- Limits and charges, each a product over a divisor: how they rise, what they are at most, and the cut of a charge.
+use Prim.Native.Nat.{ℕ, zero, suc, _+_, _-_, _*_, _/_, _≤_, _<_, max}
+use mathlib.Core.Path.{_≡_, refl}
 use native.Mathlib.Nat.{mul-le-mul-left, mul-le-mul, div-zero, div-mul-le-self, le-div-iff-mul-le}
 use native.Mathlib.Omega.{arith}
 use Rattle.reading.specs.Block.{Terms, mostNetCone, leapYear}
@@ -23,6 +24,16 @@ quotient-le : {a b d e : ℕ} → 0 < d → d ≤ e → a ≤ b → a / e ≤ b 
 quotient-le {a} {b} {d} {e} some wider h =
     let below : a / e * d ≤ b = omega (arith, mul-le-mul-left (a / e) wider, div-mul-le-self a e) in
     le-div-iff-mul-le {k = d} {x = a / e} {y = b} some .1 below
+
+-- likewise a quotient to the nearest whole number
+nearest-le : {a b d e : ℕ} → 0 < d → d ≤ e → a ≤ b → (a + e / 2) / e ≤ (b + d / 2) / d
+nearest-le {a} {b} {d} {e} some wider h =
+    let near = (a + e / 2) / e in
+    le-div-iff-mul-le {k = d} {x = near} {y = b + d / 2} some .1 (by near (div-mul-le-self (a + e / 2) e))
+  where
+    by : (n : ℕ) → n * e ≤ a + e / 2 → n * d ≤ b + d / 2
+    by zero below = omega arith
+    by (suc n) below = omega (arith, mul-le-mul-left n wider)
 
 -- over one divisor, whatever it is, a quotient rises with what is divided
 pub div-rises : (d : ℕ) {a b : ℕ} → a ≤ b → a / d ≤ b / d
@@ -62,6 +73,11 @@ pub limit-le : (t : Terms) (kw : ℕ) → TermsIn t → kw ≤ mostKilowatts →
 unfolding limit divisors
 limit-le t kw i k = limit-over-le 2000 t kw (omega arith) i k
 
+-- the largest charge of any row, in cents
+pub most-charge : mostCharge ≡ 813333333
+unfolding fullCharge chargeOver divisors
+most-charge = refl
+
 -- what is divided for a charge, on terms within their bounds and for at most the most kW
 pub charge-product-le : (t : Terms) (short : ℕ) → TermsIn t → short ≤ mostKilowatts
     → short * t .netCone * t .days ≤ mostKilowatts * mostNetCone * leapYear
@@ -70,8 +86,8 @@ charge-product-le t short i k = mul-le-mul (mul-le-mul k (i .netCone)) (i .days)
 -- it gives no more than the largest charge, over any divisor of at least 360000
 pub charge-over-le : (divisor : ℕ) (t : Terms) (short : ℕ) → 360000 ≤ divisor → TermsIn t → short ≤ mostKilowatts
     → chargeOver divisor t short ≤ mostCharge
-unfolding chargeOver
-charge-over-le divisor t short wide i k = quotient-le {d = 360000} (omega arith) wide (charge-product-le t short i k)
+unfolding chargeOver fullCharge divisors
+charge-over-le divisor t short wide i k = nearest-le {d = 360000} (omega arith) wide (charge-product-le t short i k)
 
 -- and so no charge before the cut is larger
 pub full-charge-le : (t : Terms) (short : ℕ) → TermsIn t → short ≤ mostKilowatts → fullCharge t short ≤ mostCharge

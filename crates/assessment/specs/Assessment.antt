@@ -279,9 +279,9 @@ limitOver divisor t kw = limitFactor * t .netCone * t .days * kw / divisor
 unfoldable pub limit : Terms → ℕ → ℕ
 limit t kw = limitOver (divisors t .limit) t kw
 
--- shortfall times Net CONE times days over a divisor, rounded down
+-- shortfall times Net CONE times days over a divisor, to the nearest cent, half a cent upward
 unfoldable pub chargeOver : ℕ → Terms → ℕ → ℕ
-chargeOver divisor t short = short * t .netCone * t .days / divisor
+chargeOver divisor t short = (short * t .netCone * t .days + divisor / 2) / divisor
 
 -- the charge for a shortfall before the limit cuts it
 unfoldable pub fullCharge : Terms → ℕ → ℕ

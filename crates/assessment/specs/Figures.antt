@@ -102,7 +102,7 @@ terms netCone = record { netCone = netCone; days = 365 }
 abbrev pub over : ℕ → ℕ → Ratio
 over n d = record { numerator = n; denominator = d }
 
--- the figures that document 01 marks (P), in its order
+-- the figures that document 01 marks (P), in its order; those at Net CONE 1 are document 02's (N7)
 unfoldable pub provedFigures : List Figure
 provedFigures =
     scheduled (onA 1 (pos 999)) gives 20000
@@ -113,8 +113,8 @@ provedFigures =
     ∷ scheduled (row 0 0 0 (pos 0) 0 0 10 0 1 (negsuc 298) (at (negsuc 299) 0 ∷ at (negsuc 292) 10 ∷ [])) gives 1
     ∷ test (considered 0 (prd (pos 1999))) gives 0
     ∷ test (considered 0 (prd (pos 2000))) gives 1
-    ∷ charge (terms 1) (account 4000000 0) 986 gives 0
-    ∷ charge (terms 1) (account 4000000 0) 987 gives 1
+    ∷ charge (terms 1) (account 4000000 0) 493 gives 0
+    ∷ charge (terms 1) (account 4000000 0) 494 gives 1
     ∷ limit (terms 30000) 1 gives 16425
     ∷ charge (terms 30000) (account 1 16400) 1 gives 25
     ∷ fullCharge (terms 30000) 1 gives 30
@@ -289,6 +289,10 @@ workedFigures =
     ∷ oneShort 0 1 .charge gives 25
     ∷ oneShort 0 2 .charge gives 30
     ∷ oneShort 1 1 .charge gives 30
+    -- a charge is to the nearest cent: exactly half a cent goes up (36.5), less goes down (36.4635), more goes up (557628.75)
+    ∷ fullCharge (terms 36) 1000 gives 37
+    ∷ fullCharge (terms 36) 999 gives 36
+    ∷ fullCharge (terms 30000) 18333 gives 557629
     -- a commitment raises its account only if it is larger, and leaves the sums
     ∷ raised 2 (account 1 16400) .largest gives 2
     ∷ raised 1 (account 2 16400) .largest gives 2
@@ -298,7 +302,6 @@ workedFigures =
     ∷ added 30 7 (account 1 16400) .credited gives 7
     ∷ added 30 7 (account 1 16400) .largest gives 1
     -- the largest charge: the most kW short, on the highest terms
-    ∷ fullCharge (record { netCone = 200000; days = 366 }) 4000000 gives 813333333
     ∷ mostCharge gives 813333333
     -- with no bonus nothing is credited, and the whole pool is carried
     ∷ credits unshared gives 0

@@ -1,8 +1,8 @@
 -- What the values of the code say, as the records that the definitions speak of; and the most that figures of an accepted file are.
-use Prim.Native.Nat.{ℕ, _+_, _*_, _/_}
-use Rattle.reading.specs.Block.{mostNetCone, leapYear}
+use Prim.Native.Nat.{ℕ, _+_, _*_}
+use Rattle.reading.specs.Block.{Terms, mostNetCone, leapYear}
 use Rattle.reading.specs.Interval.{mostKilowatts, mostImports, mostRows}
-use Rattle.assessment.specs.Assessment.{Ratio, RowFigures, Account}
+use Rattle.assessment.specs.Assessment.{Ratio, RowFigures, Account, fullCharge}
 use Rattle.assessment.specs.declared.ratio.Ratio.{Ratio as RatioValue}
 use Rattle.assessment.specs.declared.row.Figures.{Figures as FiguresValue}
 use Rattle.assessment.specs.declared.account.Account.{Account as AccountValue}
@@ -34,6 +34,10 @@ mostActual = 2 * mostKilowatts
 abbrev pub mostNumerator : ℕ
 mostNumerator = mostImports + mostActual * mostRows
 
+-- the highest terms
+abbrev pub highestTerms : Terms
+highestTerms = record { netCone = mostNetCone; days = leapYear }
+
 -- the most cents of a charge: for the most kW, on the highest terms
 abbrev pub mostCharge : ℕ
-mostCharge = mostKilowatts * mostNetCone * leapYear / 360000
+mostCharge = fullCharge highestTerms mostKilowatts

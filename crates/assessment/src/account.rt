@@ -39,13 +39,13 @@ pub fn limit(terms: Terms, kw: Kilowatts) -> Cents
     Cents(LIMIT_FACTOR * terms.net_cone * terms.days * kw.0 / LIMIT_DIVISOR)
 }
 
-// The charge for a shortfall before the limit cuts it, rounded down.
+// The charge for a shortfall before the limit cuts it, to the nearest cent, half a cent upward.
 fn full_charge(terms: Terms, short: Kilowatts) -> Cents
     requires { ⌜ termsOutside (termsIn terms) ≡ false ⌝ }
     requires { ⌜ short .0 ≤ mostKilowatts ⌝ }
     ensures { λ r. ⌜ r .0 ≡ fullCharge (termsIn terms) (short .0) ⌝ }
 {
-    Cents(short.0 * terms.net_cone * terms.days / CHARGE_DIVISOR)
+    Cents((short.0 * terms.net_cone * terms.days + CHARGE_DIVISOR / 2) / CHARGE_DIVISOR)
 }
 
 impl Account {

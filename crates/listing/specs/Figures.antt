@@ -21,10 +21,10 @@ headingText = text "interval,id,expected,actual,outage,economic,shortfall,bonus,
 unfoldable pub listingText : List ℕ
 listingText =
     text "1000,11,86667,60000,10000,26667,0,0,0,0\n"
-    ++ text "1000,12,43333,25000,0,0,18333,0,557628,0\n"
-    ++ text "1000,13,0,35000,0,0,0,30000,0,418210\n"
+    ++ text "1000,12,43333,25000,0,0,18333,0,557629,0\n"
+    ++ text "1000,13,0,35000,0,0,0,30000,0,418211\n"
     ++ text "1000,14,5000,15001,0,0,0,10001,0,139417\n"
-    ++ text "pool,1000,866673,557628,557627,1\n"
+    ++ text "pool,1000,866673,557629,557628,1\n"
 
 -- the listing's stream
 unfoldable pub listingStream : List ℕ

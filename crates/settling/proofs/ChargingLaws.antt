@@ -32,6 +32,7 @@ use Rattle.assessment.specs.Values.{ratioIn, figuresIn, accountIn}
 use Rattle.assessment.specs.declared.ratio.Ratio.{Ratio as RatioValue}
 use Rattle.assessment.specs.declared.row.Figures.{Figures as FiguresValue}
 use Rattle.assessment.specs.declared.account.Account.{Account as AccountValue}
+use Rattle.assessment.proofs.Limits.{most-charge}
 use Rattle.ledger.specs.Ledger.{ledgerBytes, accountAt, ledgerOf}
 use Rattle.ledger.specs.declared.layout.Standing.{Standing as StandingValue}
 use Rattle.settling.specs.Settling.{resultBytes, rowsWords, assessedFile}
@@ -221,7 +222,7 @@ module _ {ledger file : List ℕ} {s : StandingValue} {h : HeaderValue} (p : Pas
 
       -- so the sum of charges fits with it
       pub charges-more : so + cents < 2 ^ 64
-      charges-more = omega (arith, charges-next, charges-fit p)
+      charges-more = omega (arith, charges-next, charges-fit p, most-charge)
 
       -- and that of bonuses
       pub bonus-more : kw + f .bonus .0 < 2 ^ 64

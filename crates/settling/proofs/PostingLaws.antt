@@ -34,7 +34,7 @@ use Rattle.assessment.specs.Assessment.{
 }
 use Rattle.assessment.specs.Values.{mostActual, accountIn}
 use Rattle.assessment.specs.declared.account.Account.{Account as AccountValue}
-use Rattle.assessment.proofs.Limits.{limit-le}
+use Rattle.assessment.proofs.Limits.{limit-le, most-charge}
 use Rattle.assessment.proofs.Shares.{credits-le}
 use Rattle.ledger.specs.Ledger.{
   ledgerHeaderBytes,
@@ -458,7 +458,8 @@ module _ {b file : List ℕ} {s : StandingValue} {h : HeaderValue} (p : Passed b
       -- and so is the charge
       pub charge-read : {charge : ℕ} → charge ≡ word64 (drop (resultBytes i) result) 6 → charge ≡ one .charge
       charge-read read =
-          read ∙ charge-stands i one more (pass .crediting .tail) result one-stands (omega (arith, one-bounded .charge))
+          let fits : one .charge < 2 ^ 64 = omega (arith, one-bounded .charge, most-charge) in
+          read ∙ charge-stands i one more (pass .crediting .tail) result one-stands fits
 
       -- the share of its bonus is its credit
       pub credit-is : {given cash total kw : ℕ} → cash ≡ pool x → total ≡ totalBonus x → kw ≡ one .figures .bonus
@@ -500,7 +501,7 @@ module _ {b file : List ℕ} {s : StandingValue} {h : HeaderValue} (p : Passed b
               let within = account-within p taken found in
               let limit = limit-le (ledgerOf b .terms) (own .largest) (terms-within p) (within .largest) in
               let sums = ap (λ a. a .charged) as-raised in (
-                omega (arith, sums, within .charged, limit, charged, one-bounded .charge),
+                omega (arith, sums, within .charged, limit, charged, one-bounded .charge, most-charge),
                 omega (arith, ap (λ a. a .credited) as-raised, within .credited, credits-more),
               )
 

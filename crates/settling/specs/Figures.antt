@@ -46,8 +46,8 @@ settledListing =
     bytesOfWords 8 (
     1 ∷ 30000 ∷ 365 ∷ 1001 ∷ 1 ∷ 4 ∷ 8 ∷ 0
     ∷ 11 ∷ 100000 ∷ 0 ∷ 0
-    ∷ 12 ∷ 50000 ∷ 557628 ∷ 0
-    ∷ 13 ∷ 0 ∷ 0 ∷ 418210
+    ∷ 12 ∷ 50000 ∷ 557629 ∷ 0
+    ∷ 13 ∷ 0 ∷ 0 ∷ 418211
     ∷ 14 ∷ 5000 ∷ 0 ∷ 139417
     ∷ []
     ) ++ buffer 8
@@ -56,10 +56,10 @@ settledListing =
 unfoldable pub resultListing : List ℕ
 resultListing =
     bytesOfWords 8 (
-    866673 ∷ 557628 ∷ 557627 ∷ 1 ∷ 40001 ∷ 130001 ∷ 150000 ∷ 4
+    866673 ∷ 557629 ∷ 557628 ∷ 1 ∷ 40001 ∷ 130001 ∷ 150000 ∷ 4
     ∷ 86667 ∷ 60000 ∷ 10000 ∷ 26667 ∷ 0 ∷ 0 ∷ 0 ∷ 0
-    ∷ 43333 ∷ 25000 ∷ 0 ∷ 0 ∷ 18333 ∷ 0 ∷ 557628 ∷ 0
-    ∷ 0 ∷ 35000 ∷ 0 ∷ 0 ∷ 0 ∷ 30000 ∷ 0 ∷ 418210
+    ∷ 43333 ∷ 25000 ∷ 0 ∷ 0 ∷ 18333 ∷ 0 ∷ 557629 ∷ 0
+    ∷ 0 ∷ 35000 ∷ 0 ∷ 0 ∷ 0 ∷ 30000 ∷ 0 ∷ 418211
     ∷ 5000 ∷ 15001 ∷ 0 ∷ 0 ∷ 0 ∷ 10001 ∷ 0 ∷ 139417
     ∷ []
     ) ++ buffer 8
@@ -172,8 +172,8 @@ settledFigures =
     -- a PRD row not considered raises its account's largest commitment, word 13
     ∷ leaves openedListing (fileWith 30000 365 1000 0 0 (12 ∷ 3 ∷ 3000 ∷ drop 3 (rowOfKind 3)) []) 13 gives 3000
     -- a second file adds to an account's charges and credits, and shares the cent carried
-    ∷ leaves settledListing (listingFile 1001 0 0) 14 gives 1115256
-    ∷ leaves settledListing (listingFile 1001 0 0) 19 gives 836421
+    ∷ leaves settledListing (listingFile 1001 0 0) 14 gives 1115258
+    ∷ leaves settledListing (listingFile 1001 0 0) 19 gives 836423
     ∷ leaves settledListing (listingFile 1001 0 0) 4 gives 1
     ∷ []
 

@@ -119,8 +119,8 @@ pub fn show_charged(label: &[u8], cone: u64, days: u64, kw: u64, cents: u64)
 }
 
 pub fn charges() {
-    show_short(b"01 Net CONE 1, 365 days, 986 kW: ", 1, 365, 986);
-    show_short(b"01 Net CONE 1, 365 days, 987 kW: ", 1, 365, 987);
+    show_short(b"01 Net CONE 1, 365 days, 493 kW: ", 1, 365, 493);
+    show_short(b"01 Net CONE 1, 365 days, 494 kW: ", 1, 365, 494);
     show_charged(
         b"01 Net CONE 30000, 1 kW, 16425 charged: ",
         30000,

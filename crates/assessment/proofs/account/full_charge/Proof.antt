@@ -22,9 +22,16 @@ mul-t4 c =
     let t = termsIn (start .args .terms) in
     omega (arith, charge-product-le t (start .args .short .0) (terms-in t (start .pre .0)) (start .pre .1))
 
+add-t6 : tie.Need-add-t6
+unfolding termsIn
+add-t6 c =
+    let start = c .before .before .before in
+    let t = termsIn (start .args .terms) in
+    omega (arith, charge-product-le t (start .args .short .0) (terms-in t (start .pre .0)) (start .pre .1))
+
 returns : tie.Need-returns
 unfolding fullCharge chargeOver divisors termsIn
 returns c = refl
 
 pub full-charge-spec : {M : Type 1} → statement M
-full-charge-spec = tie.close (tie.spec mul-t3 mul-t4 returns)
+full-charge-spec = tie.close (tie.spec mul-t3 mul-t4 add-t6 returns)

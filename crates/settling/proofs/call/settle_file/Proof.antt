@@ -1,7 +1,7 @@
 -- `settling::call::settle_file`: grounds 6 to 15, then 16, for which charges are added up only where the cents carried
 -- leave little room; what refuses leaves both buffers as they were.
 use Prim.Native.Nat.{_*_, _≤_}
-use mathlib.Core.Path.{_≡_, sym, ap, _∙_}
+use mathlib.Core.Path.{_≡_, sym, ap, ap₂, _∙_}
 use mathlib.Core.Logic.{⊎-elim}
 use mathlib.Core.Bool.{false}
 use native.Mathlib.Omega.{arith}
@@ -12,7 +12,7 @@ use Rattle.words.specs.Grounds.{answered}
 use Rattle.reading.specs.Interval.{mostRows, notAFile}
 use Rattle.reading.proofs.Facts.{file-has-header, header-read}
 use Rattle.assessment.specs.Assessment.{mostCents, pool}
-use Rattle.assessment.specs.Values.{mostCharge}
+use Rattle.assessment.proofs.Limits.{most-charge}
 use Rattle.ledger.specs.Ledger.{notALedger}
 use Rattle.ledger.proofs.Sound.{ledger-read}
 use Rattle.settling.specs.Settling.{assessedFile, poolTooLarge, laterGrounds, groundsBeforePool}
@@ -73,7 +73,8 @@ unfolding poolTooLarge
 small c =
     let test = c .before in
     let room = test .before .room .ensures in
-    let below = ap (λ room. ltb room (mostRows * mostCharge)) (sym room) ∙ sym (test .below .ensures) in
+    let most = ap (λ cents. mostRows * cents) most-charge in
+    let below = ap₂ ltb (sym room) most ∙ sym (test .below .ensures) in
     ⊎-elim
     (λ w. ltb-false mostCents _ (sym (w .2 .ensures) ∙ w .3 .left))
     (λ w. pool-fits (ruled-out (c .before .before .before .before)) (below ∙ w .left))
