@@ -19,10 +19,11 @@
 
 /* What plant 11, a demand resource committed to 5000 kW, gives in the intervals from 1000 on. */
 static const uint32_t METERED[FILES] = {4000, 4500, 6000};
-/* 1000 and 500 kW short at 30000 * 365 / 360000 cents a kW; the third has bonus, and gets all that was charged. */
-static const uint64_t CHARGE[FILES] = {30416, 15208, 0};
-static const uint64_t CREDIT[FILES] = {0, 0, 45624};
-static const uint64_t CARRIED[FILES] = {30416, 45624, 0};
+/* 1000 and 500 kW short at 30000 * 365 / 360000 cents a kW, to the nearest cent: two thirds of a cent are rounded up,
+ * one third down. The third file has bonus, and gets all that was charged. */
+static const uint64_t CHARGE[FILES] = {30417, 15208, 0};
+static const uint64_t CREDIT[FILES] = {0, 0, 45625};
+static const uint64_t CARRIED[FILES] = {30417, 45625, 0};
 
 /* The buffers of a call, each of just its length. */
 struct call {

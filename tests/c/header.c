@@ -124,7 +124,7 @@ static void settle(void)
     /* The least of 25000, 25001 and 60000 - 300 - 35000, less the actual: 10000 + 40000 * 50 / 6100 is scheduled. */
     hold("economic", 0, npa_get64(first, NPA_RESULT_ROW_ECONOMIC), 9700);
     hold("shortfall", 0, npa_get64(first, NPA_RESULT_ROW_SHORTFALL), 1);
-    hold("charge", 0, npa_get64(first, NPA_RESULT_ROW_CHARGE), 30000 * 365 / 360000);
+    hold("charge", 0, npa_get64(first, NPA_RESULT_ROW_CHARGE), (30000 * 365 + 180000) / 360000);
     hold("bonus", 1, npa_get64(second, NPA_RESULT_ROW_BONUS), 10001);
     hold("credit", 1, npa_get64(second, NPA_RESULT_ROW_CREDIT), 30);
     hold("charges", 0, npa_get64(result, NPA_RESULT_CHARGES), 30);

@@ -34,11 +34,11 @@ static const uint32_t LISTING[FILE_WORDS] = {
 
 static const uint64_t RESULT[8 + 8 * ROWS] = {
     /* ratio, charges, credits, carried, total bonus, numerator, denominator, rows */
-    866673, 557628, 557627, 1, 40001, 130001, 150000, ROWS,
+    866673, 557629, 557628, 1, 40001, 130001, 150000, ROWS,
     /* expected, actual, outage, economic, shortfall, bonus, charge, credit */
     86667, 60000, 10000, 26667, 0, 0, 0, 0,
-    43333, 25000, 0, 0, 18333, 0, 557628, 0,
-    0, 35000, 0, 0, 0, 30000, 0, 418210,
+    43333, 25000, 0, 0, 18333, 0, 557629, 0,
+    0, 35000, 0, 0, 0, 30000, 0, 418211,
     5000, 15001, 0, 0, 0, 10001, 0, 139417,
 };
 
@@ -47,8 +47,8 @@ static const uint64_t LEDGER[8 + 4 * IDS] = {
     1, 30000, 365, 1001, 1, IDS, 8, 0,
     /* id, largest commitment, charged, credited */
     11, 100000, 0, 0,
-    12, 50000, 557628, 0,
-    13, 0, 0, 418210,
+    12, 50000, 557629, 0,
+    13, 0, 0, 418211,
     14, 5000, 0, 139417,
 };
 

@@ -5,6 +5,7 @@ use crate::layout::hex;
 use crate::program::{Closed, Input, Output, Program, Unread};
 use crate::random::Rng;
 use crate::streams::Case;
+use crate::vectors::{vectors, Operation, Print};
 use std::collections::{BTreeMap, HashSet};
 use std::fs;
 use std::path::Path;
@@ -112,6 +113,19 @@ impl Held {
     /// What the program is to print for a case.
     fn must_be(&self, case: &Case) -> Result<Vec<u8>, String> {
         (self.must_be)(&case.stream).map_err(|what| report(case, "reference", &what))
+    }
+
+    /// Holds the program to the vectors that are its own, after the reference.
+    pub fn hold_vectors(&mut self, own: fn(&Operation) -> Option<&Print>) -> Result<(), String> {
+        for vector in vectors()? {
+            let Some(print) = own(&vector.operation) else {
+                continue;
+            };
+            vector.hold_reference()?;
+            let case = Case::new(vector.name.clone(), print.input.clone());
+            self.hold(&case, Input::File, Output::Pipe)?;
+        }
+        Ok(())
     }
 
     /// Holds one run to the reference.

@@ -35,6 +35,9 @@ pub const CREDITED_MOST: u64 = 224_870_400_000_000;
 /// The intervals of a day.
 pub const DAY_INTERVALS: u32 = 288;
 
+/// What kW times Net CONE times days is divided by for a charge in cents.
+pub const CHARGE_DIVISOR: u64 = 360_000;
+
 /// The ledger bytes of so many accounts.
 pub fn ledger_bytes(accounts: usize) -> usize {
     64 + 32 * accounts
@@ -48,6 +51,13 @@ pub fn result_bytes(rows: usize) -> usize {
 /// The most cents that an account may be charged for a commitment.
 pub fn limit(net_cone: u64, days: u64, commitment: u64) -> u64 {
     (3 * u128::from(net_cone) * u128::from(days) * u128::from(commitment) / 2000) as u64
+}
+
+/// The cents of a shortfall before any limit: the nearest, the upper ones at half a cent.
+pub fn full_charge(net_cone: u64, days: u64, shortfall: u64) -> u64 {
+    let parts = u128::from(net_cone) * u128::from(days) * u128::from(shortfall);
+    let divisor = u128::from(CHARGE_DIVISOR);
+    ((2 * parts + divisor) / (2 * divisor)) as u64
 }
 
 /// Writes bytes at an offset, as far as the buffer reaches.

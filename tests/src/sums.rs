@@ -59,9 +59,14 @@ fn short_word(bytes: &[u8], at: usize) -> u32 {
     word_at(bytes, at).expect("the word is there")
 }
 
+/// Net CONE and days of a ledger.
+fn terms(ledger: &[u8]) -> [u64; 2] {
+    [1, 2].map(|term| long_at(ledger, term).expect("the word is there"))
+}
+
 /// The limit by the ledger's terms.
 fn limit(ledger: &[u8], commitment: u32) -> u128 {
-    let [net_cone, days] = [1, 2].map(|term| long_at(ledger, term).expect("the word is there"));
+    let [net_cone, days] = terms(ledger);
     layout::limit(net_cone, days, commitment.into()).into()
 }
 
@@ -106,7 +111,9 @@ impl Accepted<'_> {
 
     /// The full charge of a shortfall.
     fn full_charge(&self, shortfall: u128) -> u128 {
-        shortfall * word(self.ledger, 1) * word(self.ledger, 2) / 360_000
+        let [net_cone, days] = terms(self.ledger);
+        let shortfall = shortfall.try_into().expect("a shortfall is one word");
+        layout::full_charge(net_cone, days, shortfall).into()
     }
 
     /// Holds the interval's words and the cents carried to the sums over its rows.

@@ -86,8 +86,18 @@ fn prd_is_considered_from_a_point_with_kw() {
 }
 
 #[test]
-fn a_charge_is_rounded_down() {
-    for (short, cents) in [(986, 0), (987, 1)] {
+fn a_charge_is_rounded_to_the_nearest_cent() {
+    for (net_cone, short, cents) in [
+        (1, 493, 0),
+        (1, 494, 1),
+        (1, 986, 1),
+        (1, 1_479, 1),
+        (1, 1_480, 2),
+        (36, 999, 36),
+        (36, 1_000, 37), // 36.5
+        (36, 1_001, 37),
+        (36, 3_000, 110), // 109.5
+    ] {
         let row = Row {
             id: 1,
             kind: 1,
@@ -95,8 +105,9 @@ fn a_charge_is_rounded_down() {
             ..Row::default()
         };
         assert_eq!(
-            one_row(1, row, &[]),
-            [short.into(), 0, 0, 0, short.into(), 0, cents, 0]
+            one_row(net_cone, row, &[]),
+            [short.into(), 0, 0, 0, short.into(), 0, cents, 0],
+            "{short} kW at {net_cone}"
         );
     }
 }
@@ -110,7 +121,7 @@ fn charged_ledger(charged: u64) -> Ledger {
 }
 
 #[test]
-fn a_charge_is_cut_to_the_limit() {
+fn a_rounded_charge_is_cut_to_the_limit() {
     let row = Row {
         id: 1,
         kind: 1,
@@ -125,6 +136,34 @@ fn a_charge_is_cut_to_the_limit() {
         assert_eq!(interval[3], charged + charge);
     }
     assert_eq!(settled(&charged_ledger(16_426), &file).0, 6);
+}
+
+#[test]
+fn limits_and_credits_are_rounded_down() {
+    // 1 kW at Net CONE 1 has a limit of 0.5475 cents, so nothing is ever charged for it.
+    let mut ledger = Ledger::new(1, DAYS, &[1]);
+    ledger.accounts[0] = [1, 1, 0, 0];
+    let row = |id, committed, metered| Row {
+        id,
+        kind: 1,
+        committed,
+        metered,
+        ..Row::default()
+    };
+    let file = IntervalFile::new(1, DAYS, 0, vec![row(1, 1, 0).words()], vec![]);
+    assert_eq!(settled(&ledger, &file).0, 0);
+    (ledger.accounts[0][2], ledger.words[4]) = (1, 1);
+    assert_eq!(settled(&ledger, &file).0, 6);
+    // 1 cent shared by two: half a cent each.
+    let rows = vec![
+        row(1, 494, 0).words(),
+        row(2, 0, 5).words(),
+        row(3, 0, 5).words(),
+    ];
+    let file = IntervalFile::new(1, DAYS, 0, rows, vec![]);
+    let (ground, rows, interval) = settled(&Ledger::new(1, DAYS, &[1, 2, 3]), &file);
+    assert_eq!((ground, rows[0][6], rows[1][7], rows[2][7]), (0, 1, 0, 0));
+    assert_eq!(interval, [0, 1, 0, 1, 10, 10, 0, 3]);
 }
 
 #[test]
@@ -170,10 +209,10 @@ fn expected_is_rounded_down_once() {
 
 const EXAMPLE_LINES: &str = "\
 1000,11,86667,60000,10000,26667,0,0,0,0
-1000,12,43333,25000,0,0,18333,0,557628,0
-1000,13,0,35000,0,0,0,30000,0,418210
+1000,12,43333,25000,0,0,18333,0,557629,0
+1000,13,0,35000,0,0,0,30000,0,418211
 1000,14,5000,15001,0,0,0,10001,0,139417
-pool,1000,866673,557628,557627,1
+pool,1000,866673,557629,557628,1
 ";
 
 /// The example's ledger as opening leaves it.
@@ -221,8 +260,8 @@ fn the_example_leaves_these_accounts() {
     expected.words[4] = 1;
     expected.accounts = vec![
         [11, 100_000, 0, 0],
-        [12, 50_000, 557_628, 0],
-        [13, 0, 0, 418_210],
+        [12, 50_000, 557_629, 0],
+        [13, 0, 0, 418_211],
         [14, 5_000, 0, 139_417],
     ];
     assert_eq!(ledger, expected.bytes());

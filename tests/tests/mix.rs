@@ -1,7 +1,8 @@
 //! Random calls: no panic, nothing written on refusal, and a wide mix.
 
 use npa_tests::layout::{
-    ledger_bytes, long_at, result_bytes, word_at, Ledger, POINTS_MOST, ROW_BYTES,
+    full_charge, ledger_bytes, long_at, result_bytes, word_at, Ledger, CHARGE_DIVISOR, POINTS_MOST,
+    ROW_BYTES,
 };
 use npa_tests::listing::{DAYS, NET_CONE};
 use npa_tests::random::{
@@ -150,9 +151,14 @@ fn features(call: &SettleCall, result: &[u8]) -> Vec<&'static str> {
             "any first point",
         );
         note(word(10) == 0 && count > 0 && kind == 0, "offline");
-        let full = figure(4) * net_cone * days / 360_000;
+        let full = full_charge(net_cone, days, figure(4));
         note(figure(6) < full && figure(6) > 0, "charge cut");
         note(figure(6) == 0 && full > 0, "charge cut to nothing");
+        let rest = figure(4) * net_cone * days % CHARGE_DIVISOR;
+        let (whole, half) = (figure(6) == full, CHARGE_DIVISOR / 2);
+        note(whole && rest > 0 && rest < half, "charge rounded down");
+        note(whole && rest > half, "charge rounded up");
+        note(whole && rest == half, "half a cent");
         for other in 0..row {
             let theirs = |index: usize| at(at(28) as usize + ROW_BYTES * other + 4 * index);
             let same = count > 0 && theirs(13) > 0 && theirs(12) == word(12);
@@ -175,7 +181,7 @@ fn accepted_small_cases_show_every_rule() {
             }
         }
     }
-    assert_eq!(counts.len(), 33, "{counts:?}");
+    assert_eq!(counts.len(), 36, "{counts:?}");
     assert!(counts.values().all(|count| *count >= 15), "{counts:?}");
 }
 

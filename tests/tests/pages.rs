@@ -30,11 +30,11 @@ fn pages_of_the_document() {
         ),
         (
             12,
-            "1000,12,43333,25000,0,0,18333,0,557628,0\nyear,12,18333,0,557628,0,821250000\n",
+            "1000,12,43333,25000,0,0,18333,0,557629,0\nyear,12,18333,0,557629,0,821250000\n",
         ),
         (
             13,
-            "1000,13,0,35000,0,0,0,30000,0,418210\nyear,13,0,30000,0,418210,0\n",
+            "1000,13,0,35000,0,0,0,30000,0,418211\nyear,13,0,30000,0,418211,0\n",
         ),
         (
             14,
@@ -100,7 +100,7 @@ fn a_length_over_the_limit_is_followed_by_the_year() {
     assert_eq!(page(11, &input), "refused,1,7\nyear,11,0,0,0,0,0\n");
 }
 
-/// A kW of commitment makes a limit of 16425 cents.
+/// A kW of commitment makes a limit of 16425 cents; 90 kW short are 2737.5 cents.
 #[test]
 fn the_limit_is_that_of_the_largest_commitment() {
     let years: Vec<String> = pages::commitments()
@@ -109,17 +109,17 @@ fn the_limit_is_that_of_the_largest_commitment() {
         .collect();
     let expected = [
         "year,1,0,0,0,0,0",
-        "year,1,5100,0,155124,0,82125000",
-        "year,1,110,0,3345,0,1642500",
+        "year,1,5100,0,155125,0,82125000",
+        "year,1,110,0,3346,0,1642500",
         "year,1,0,0,0,0,11497500",
-        "year,1,130,0,3953,0,11497500",
-        "year,1,90,0,2737,0,1642500",
-        "year,1,90,0,2737,0,1642500",
+        "year,1,130,0,3955,0,11497500",
+        "year,1,90,0,2738,0,1642500",
+        "year,1,90,0,2738,0,1642500",
         "year,1,8000000,0,1626666666,0,439200000000",
     ];
     assert_eq!(years, expected);
     let refused_on_16 = pages::commitments().pop().unwrap();
-    assert_eq!(year(512, &refused_on_16), "year,512,8,0,1626,0,549000");
+    assert_eq!(year(512, &refused_on_16), "year,512,8,0,1627,0,549000");
 }
 
 #[test]

@@ -5,11 +5,11 @@ use npa_tests::listing;
 use npa_tests::reference::{event, npalist, open, settle};
 use npa_tests::streams::document;
 use npa_tests::vectors::{vector, vectors, Operation, FILES, FOLDER};
-use std::collections::BTreeMap;
+use std::collections::{BTreeMap, BTreeSet};
 use std::fs;
 
 /// The rules that the reference has.
-const RULES: &str = "base";
+const RULES: &str = "n7";
 
 /// The ground, if the case has one.
 fn ground(operation: &Operation) -> Option<u32> {
@@ -34,19 +34,26 @@ fn operation_name(operation: &Operation) -> &'static str {
 
 #[test]
 fn the_reference_gives_every_case() {
-    let (mut counts, mut grounds) = (BTreeMap::new(), BTreeMap::new());
+    let (mut counts, mut grounds) = (BTreeMap::new(), BTreeSet::new());
     for vector in vectors().unwrap() {
         assert_eq!(vector.rules, RULES, "{}", vector.name);
         vector.hold_reference().unwrap();
         let name = operation_name(&vector.operation);
         *counts.entry(name).or_insert(0) += 1;
         if let Some(ground) = ground(&vector.operation) {
-            *grounds.entry((name, ground)).or_insert(0) += 1;
+            grounds.insert((name, ground));
         }
     }
-    assert_eq!(counts, BTreeMap::from([("event", 250), ("page", 250)]));
-    for met in [0, 6, 7, 15, 20, 22].map(|ground| ("event", ground)) {
-        assert!(grounds.contains_key(&met), "{met:?}");
+    let wanted = [
+        ("event", 40),
+        ("list", 40),
+        ("open", 20),
+        ("page", 40),
+        ("settle", 160),
+    ];
+    assert_eq!(counts, BTreeMap::from(wanted));
+    for name in ["open", "settle", "event"] {
+        assert!(grounds.contains(&(name, 0)), "an accepted {name}");
     }
 }
 

@@ -2,6 +2,7 @@
 
 use crate::compare::{Call, Calls, Pair};
 use crate::npa;
+use crate::vectors::Answered;
 use npa_tests::layout::{ledger_bytes, Opening, BLOCK_MOST, IDS_MOST, OPENING_BYTES};
 use npa_tests::listing::{self, DAYS, IDS, NET_CONE};
 use npa_tests::random::{
@@ -9,6 +10,7 @@ use npa_tests::random::{
     SMALL,
 };
 use npa_tests::reference;
+use npa_tests::vectors::{self, Operation};
 
 pub const PAIR: Pair<1> = Pair {
     name: "opening",
@@ -28,6 +30,26 @@ impl From<OpenCall> for Call<1> {
             written: [call.ledger],
         }
     }
+}
+
+/// The opening of a vector.
+pub fn answered(operation: Operation) -> Option<Answered<1>> {
+    let Operation::Open(vectors::Call {
+        given: [block, ledger],
+        ground,
+        left,
+    }) = operation
+    else {
+        return None;
+    };
+    Some(Answered {
+        call: Call {
+            read: block,
+            written: [ledger],
+        },
+        ground,
+        left,
+    })
 }
 
 // ---------------------------------------------------------------- fixed calls

@@ -1,5 +1,6 @@
 //! Calls to settling: fixed ones on both sides of every boundary, and random ones.
 
+pub mod charges;
 pub mod curves;
 pub mod extremes;
 pub mod faults;
@@ -9,6 +10,7 @@ pub mod row_bounds;
 
 use crate::compare::{Call, Calls, Pair};
 use crate::npa;
+use crate::vectors::Answered;
 use npa_tests::layout::{
     put_words, result_bytes, IntervalFile, Ledger, Row, IMPORTS_MOST, KW_MOST,
 };
@@ -18,6 +20,7 @@ use npa_tests::random::{
     SettleCase, Size, FULL, MIDDLE, SMALL,
 };
 use npa_tests::reference;
+use npa_tests::vectors::{self, Operation};
 
 pub const PAIR: Pair<2> = Pair {
     name: "settling",
@@ -39,12 +42,33 @@ impl From<SettleCall> for Call<2> {
     }
 }
 
+/// The settling of a vector.
+pub fn answered(operation: Operation) -> Option<Answered<2>> {
+    let Operation::Settle(vectors::Call {
+        given: [ledger, file, result],
+        ground,
+        left,
+    }) = operation
+    else {
+        return None;
+    };
+    Some(Answered {
+        call: Call {
+            read: file,
+            written: [ledger, result],
+        },
+        ground,
+        left,
+    })
+}
+
 // ---------------------------------------------------------------- fixed calls
 
 fn fixed(rng: &mut Rng) -> Vec<Call<2>> {
     let mut cases = ledger_bounds::cases();
     cases.extend(file_bounds::cases());
     cases.extend(row_bounds::cases());
+    cases.extend(charges::cases());
     cases.extend(curves::cases());
     cases.extend(extremes::cases());
     cases.extend(faults::cases());

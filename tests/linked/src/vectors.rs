@@ -48,20 +48,22 @@ pub fn compare<const W: usize>(
 mod tests {
     use super::*;
     use crate::compare::Pair;
-    use crate::events;
+    use crate::{events, openings, settlings};
 
     /// The reference in place of the module.
-    fn reference() -> Comparison<3> {
+    fn reference<const W: usize>(pair: Pair<W>) -> Comparison<W> {
         Comparison::new(Pair {
-            module: events::PAIR.reference,
-            ..events::PAIR
+            module: pair.reference,
+            ..pair
         })
     }
 
     #[test]
-    fn the_reference_gives_the_events() {
-        let compared = compare(&mut reference(), 1, events::answered);
-        assert_eq!(compared, Ok(250));
+    fn the_reference_gives_the_vectors() {
+        let opened = compare(&mut reference(openings::PAIR), 1, openings::answered);
+        let settled = compare(&mut reference(settlings::PAIR), 1, settlings::answered);
+        let events = compare(&mut reference(events::PAIR), 1, events::answered);
+        assert!(opened.unwrap() >= 20 && settled.unwrap() >= 160 && events.unwrap() >= 40);
     }
 
     #[test]
@@ -77,7 +79,7 @@ mod tests {
             Some(wanted)
         };
         for answered in [another_ground, another_byte, |_| None] {
-            assert!(compare(&mut reference(), 1, answered).is_err());
+            assert!(compare(&mut reference(events::PAIR), 1, answered).is_err());
         }
     }
 }

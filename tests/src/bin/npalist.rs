@@ -1,5 +1,5 @@
-//! `npalist BINARY [SEED [N]]` runs the program npalist on fixed streams and N random ones, and holds every listing
-//! to the reference's, byte for byte.
+//! `npalist BINARY [SEED [N]]` runs the program npalist on fixed streams, the vectors and N random streams, and holds
+//! every listing to the reference's, byte for byte.
 
 use npa_tests::held::{common_sorts, line_sort, samples, Held};
 use npa_tests::outcome::{seed_and_count, shown};
@@ -7,6 +7,7 @@ use npa_tests::program::{Input, Output};
 use npa_tests::random::Rng;
 use npa_tests::reference::npalist;
 use npa_tests::streams;
+use npa_tests::vectors::{Operation, Print};
 use std::env;
 use std::process::ExitCode;
 
@@ -26,6 +27,14 @@ fn small(held: &mut Held, rng: &mut Rng) -> Result<(), String> {
     held.hold_parted(&streams::prefixes()[streams::two_intervals().len()])
 }
 
+/// The listing of a vector.
+fn listing(operation: &Operation) -> Option<&Print> {
+    match operation {
+        Operation::List(print) => Some(print),
+        _ => None,
+    }
+}
+
 /// A stream that stops the listing, with an input that does not end: the program ends all the same.
 fn stopped(held: &mut Held, rng: &mut Rng) -> Result<(), String> {
     held.hold_all(&streams::too_long(), Input::Open)?;
@@ -37,6 +46,7 @@ fn run(binary: &str, seed: u64, count: u64) -> Result<String, String> {
     let mut held = Held::new(binary, |stream| Ok(npalist(stream)), sorts)?;
     let mut rng = Rng::new(seed);
     small(&mut held, &mut rng)?;
+    held.hold_vectors(listing)?;
     for case in samples()? {
         held.hold(&case, Input::File, Output::Pipe)?;
         held.hold(&case, Input::Pieces(700), Output::Slow(3_000))?;

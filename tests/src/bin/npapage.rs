@@ -8,7 +8,7 @@ use npa_tests::program::{Input, Output};
 use npa_tests::random::Rng;
 use npa_tests::reference::npapage;
 use npa_tests::streams::{self, Case};
-use npa_tests::vectors::{vectors, Operation};
+use npa_tests::vectors::{Operation, Print};
 use std::env;
 use std::process::ExitCode;
 
@@ -85,17 +85,12 @@ fn small(held: &mut Held, rng: &mut Rng) -> Result<(), String> {
     held.hold_parted(&pages::with_id(&document, 15))
 }
 
-/// The pages among the vectors, through the program.
-fn outside(held: &mut Held) -> Result<(), String> {
-    for vector in vectors()? {
-        let Operation::Page(print) = &vector.operation else {
-            continue;
-        };
-        vector.hold_reference()?;
-        let case = Case::new(vector.name.clone(), print.input.clone());
-        held.hold(&case, Input::File, Output::Pipe)?;
+/// The page of a vector.
+fn own(operation: &Operation) -> Option<&Print> {
+    match operation {
+        Operation::Page(print) => Some(print),
+        _ => None,
     }
-    Ok(())
 }
 
 /// What stops the page, with an input that does not end: the program ends all the same.
@@ -110,7 +105,7 @@ fn run(binary: &str, seed: u64, count: u64) -> Result<String, String> {
     let mut held = Held::new(binary, page, sorts)?;
     let mut rng = Rng::new(seed);
     small(&mut held, &mut rng)?;
-    outside(&mut held)?;
+    held.hold_vectors(own)?;
     for case in with_ids(&samples()?) {
         held.hold(&case, Input::File, Output::Pipe)?;
         held.hold(&case, Input::Pieces(700), Output::Slow(3_000))?;

@@ -3,8 +3,8 @@
 use super::{first_made, OpenCase, Rng, SettleCase, Size};
 use crate::layout::{
     self, ledger_bytes, limit, long_at, result_bytes, IntervalFile, Ledger, Opening, Row,
-    DAY_INTERVALS, HEADER_BYTES, IDS_MOST, IMPORTS_MOST, KW_MOST, OPENING_BYTES, POINTS_MOST,
-    POOL_MOST,
+    CHARGE_DIVISOR, DAY_INTERVALS, HEADER_BYTES, IDS_MOST, IMPORTS_MOST, KW_MOST, OPENING_BYTES,
+    POINTS_MOST, POOL_MOST,
 };
 use crate::reference;
 
@@ -86,11 +86,18 @@ impl World {
         self.kw(rng) as i32 * rng.pick(&[1, -1])
     }
 
-    /// The kW at which a charge reaches one cent more, or one kW less.
+    /// The kW at which a charge reaches one cent more, or one kW less; where some kW are exactly half a cent above
+    /// whole ones, often these.
     fn edge_kw(&self, rng: &mut Rng) -> u32 {
         let cents = u64::from(self.net_cone) * u64::from(self.days);
-        let steps = 1 + rng.below(5);
-        let edge = (steps * 360_000).div_ceil(cents);
+        let half = CHARGE_DIVISOR / 2;
+        let exact = half / common_divisor(cents, half);
+        let edge = if exact * cents % CHARGE_DIVISOR == half && rng.one_in(2) {
+            exact * (1 + 2 * rng.below(3))
+        } else {
+            let steps = 1 + rng.below(5);
+            ((2 * steps - 1) * half).div_ceil(cents)
+        };
         (edge - rng.below(2)).min(u64::from(KW_MOST)) as u32
     }
 
@@ -348,6 +355,14 @@ impl World {
             (4, _) => (0, a),
             _ => (a.min(b), a.max(b)),
         }
+    }
+}
+
+/// The greatest number that divides both.
+fn common_divisor(a: u64, b: u64) -> u64 {
+    match b {
+        0 => a,
+        _ => common_divisor(b, a % b),
     }
 }
 

@@ -8,10 +8,16 @@ pub fn limit(terms: Terms, commitment: Whole) -> Whole {
     3 * terms.net_cone * terms.days * commitment / 2000
 }
 
-/// The price of a shortfall, cut to what the limit leaves.
+/// The price of a shortfall to the nearest cent, then cut to what the limit leaves.
 pub fn charge(terms: Terms, shortfall: Whole, left: Whole) -> Whole {
-    let full = shortfall * terms.net_cone * terms.days / 360_000;
+    let full = nearest(shortfall * terms.net_cone * terms.days, 360_000);
     full.min(left)
+}
+
+/// The whole number nearest to a quotient, and the upper one halfway between two.
+fn nearest(dividend: Whole, divisor: Whole) -> Whole {
+    let upward = 2 * (dividend % divisor) >= divisor;
+    dividend / divisor + Whole::from(upward)
 }
 
 /// One row's share of the pool; nothing when nobody has a bonus.

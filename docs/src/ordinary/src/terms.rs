@@ -22,8 +22,8 @@ impl Terms {
         3 * self.net_cone * self.days * commitment / 2000
     }
 
-    /// The cents for so many kW short.
+    /// The cents for so many kW short, to the nearest cent; adding half a divisor turns half a cent upward.
     pub fn charge(&self, shortfall: u64) -> u64 {
-        shortfall * self.net_cone * self.days / 360_000
+        (shortfall * self.net_cone * self.days + 180_000) / 360_000
     }
 }
