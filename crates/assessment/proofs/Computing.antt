@@ -12,6 +12,7 @@ use Rattle.assessment.specs.Assessment.{
   scheduledBy,
   scheduled,
   firstKw,
+  bonusCutBy,
   bonusCut,
   economicScheduled,
   consideredAs,
@@ -61,5 +62,5 @@ use Rattle.assessment.specs.Assessment.{
 }
 
 unfoldable pub computing : ℕ
-unfolding reading-computing orZero actual orElse fromLastReached alongCurve lastPrice minimumOnline scheduledBy scheduled firstKw bonusCut economicScheduled consideredAs considered ifConsidered portion expectedAs expected bonusActualAs bonus numeratorShareAs numeratorShare importShare numerator denominatorShareAs denominatorShare denominator ratioOf printedRatio outageAs outage available economicRule economicAs economic shortfall rowFigures emptyAccount accountOf raised added divisors limitOver limit chargeOver fullCharge charge chargedRow assessed charges totalBonus pool share credit credits carriedOn
+unfolding reading-computing orZero actual orElse fromLastReached alongCurve lastPrice minimumOnline scheduledBy scheduled firstKw bonusCutBy bonusCut economicScheduled consideredAs considered ifConsidered portion expectedAs expected bonusActualAs bonus numeratorShareAs numeratorShare importShare numerator denominatorShareAs denominatorShare denominator ratioOf printedRatio outageAs outage available economicRule economicAs economic shortfall rowFigures emptyAccount accountOf raised added divisors limitOver limit chargeOver fullCharge charge chargedRow assessed charges totalBonus pool share credit credits carriedOn
 computing = 0

@@ -1,8 +1,8 @@
 -- What the assessment of one row promises: shortfall or bonus, never both, and bounds of its figures.
-use Prim.Native.Nat.{ℕ, suc, _+_, _-_, _*_, _/_, _≤_, min}
-use mathlib.Core.Path.{_≡_}
+use Prim.Native.Nat.{ℕ, suc, _+_, _-_, _*_, _/_, _≤_, min, max}
+use mathlib.Core.Path.{_≡_, refl}
 use mathlib.Core.Logic.{_⊎_, inl, inr, ⊎-elim}
-use mathlib.Core.List.{List, List·Memᴰ}
+use mathlib.Core.List.{List, [], _∷_, List·Memᴰ}
 use mathlib.Core.Bool.{Bool, true, false, cond}
 use native.Mathlib.Decide.{decLe}
 use native.Mathlib.Omega.{arith}
@@ -10,11 +10,17 @@ use lib.ListN.{length}
 use lib.IntN.{ℤ, pos, negsuc, natAbs, _+ℤ_, subℕ}
 use lib.Dec.{ltb, eqb}
 use Rattle.words.proofs.Lists.{sum-most}
-use Rattle.reading.specs.Interval.{mostKilowatts, mostImports, mostRows, Header, Row, Kind, kindOf}
+use Rattle.reading.specs.Interval.{mostKilowatts, mostImports, mostRows, Header, Point, Row, Kind, kindOf}
 use Rattle.reading.proofs.Bounds.{HeaderIn, RowIn}
 use Rattle.assessment.specs.Assessment.{
   orZero,
   actual,
+  scheduledBy,
+  scheduled,
+  available,
+  bonusCutBy,
+  bonusCut,
+  economicScheduled,
   considered,
   ifConsidered,
   Ratio,
@@ -42,6 +48,7 @@ use Rattle.assessment.specs.Assessment.{
   rowFigures,
 }
 use Rattle.assessment.specs.Values.{mostActual, mostNumerator}
+use Rattle.assessment.specs.Claims.{economicByCut, SameEconomic}
 use Rattle.assessment.proofs.KindLaws.{each-kind}
 
 -- a figure that is given only if its row is considered is no larger
@@ -108,6 +115,18 @@ unfolding economic economicAs economicRule
 economic-le r e =
     each-kind (λ k. economicAs k r e ≤ e)
     (omega arith) (omega arith) (omega arith) (omega arith) (omega arith) (omega arith) (kindOf (r .kind))
+
+-- with points both are the scheduled kW; without, neither leaves the economic rule anything,
+-- as no more is expected than the committed kW
+pub same-economic : SameEconomic
+unfolding SameEconomic economicByCut economicRule bonusCutBy bonusCut economicScheduled scheduledBy scheduled
+same-economic q r = by (r .curve) (expected q r) (expected-le q r)
+  where
+    by : (ps : List Point) (e : ℕ) → e ≤ r .committed
+        → min (r .maximum) (min e (available r)) - max (bonusCutBy ps r) (actual r)
+        ≡ min (r .maximum) (min e (available r)) - max (scheduledBy ps r) (actual r)
+    by [] e h = omega arith
+    by (p ∷ ps) e h = refl
 
 -- the difference of two numbers, or 0 if it is negative, is at most the first
 orZero-subℕ : (m n : ℕ) → orZero (subℕ m n) ≤ m

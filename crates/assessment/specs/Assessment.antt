@@ -72,11 +72,20 @@ unfoldable pub firstKw : List Point → ℕ
 firstKw [] = 0
 firstKw (p ∷ ps) = p .kw
 
--- what bonus is cut to
-unfoldable pub bonusCut : Row → ℕ
-bonusCut r = scheduled r
+-- owned minus both outages, at least 0
+unfoldable pub available : Row → ℕ
+available r = r .owned - (r .planned + r .forced)
 
--- the scheduled kW that the economic rule takes
+-- what bonus is cut to, by a curve: with no points what is available, neither raised nor cut; else the scheduled kW
+unfoldable pub bonusCutBy : List Point → Row → ℕ
+bonusCutBy [] r = available r
+bonusCutBy (p ∷ ps) r = scheduledBy (p ∷ ps) r
+
+-- what bonus is cut to, by the row's own points
+unfoldable pub bonusCut : Row → ℕ
+bonusCut r = bonusCutBy (r .curve) r
+
+-- the scheduled kW that the economic rule takes, with no points the committed kW
 unfoldable pub economicScheduled : Row → ℕ
 economicScheduled r = scheduled r
 
@@ -190,10 +199,6 @@ outageAs noKind r = 0
 -- Outage, by the kind word
 unfoldable pub outage : Row → ℕ
 outage r = outageAs (kindOf (r .kind)) r
-
--- owned minus both outages, at least 0
-unfoldable pub available : Row → ℕ
-available r = r .owned - (r .planned + r .forced)
 
 -- the least of emergency maximum, expected and available, minus the greater of scheduled and actual; 0 if negative
 unfoldable pub economicRule : Row → ℕ → ℕ

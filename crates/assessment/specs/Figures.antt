@@ -153,6 +153,11 @@ listingRows = row11 ∷ row12 ∷ row13 ∷ row14 ∷ []
 abbrev pub at60 : ℕ → ℕ → ℤ → ℕ → ℕ → ℕ → Row
 at60 kind owned metered planned forced maximum = row kind 100000 owned metered planned forced maximum 20000 1 (pos 3000) curveA
 
+-- a row without points that gave 35000 kW: kind, committed, owned, planned, forced and maximum
+abbrev pub withoutCurve : ℕ → ℕ → ℕ → ℕ → ℕ → ℕ → Row
+withoutCurve kind committed owned planned forced maximum =
+    row kind committed owned (pos 35000) planned forced maximum 0 1 (pos 3000) []
+
 -- committed 100000 at ratio 1, owned 110000, forced 30000, maximum 110000, scheduled 60000, actual 50000
 unfoldable pub withForced : RowFigures
 withForced = rowFigures 0 (over 1 1) (at60 0 110000 (pos 50000) 0 30000 110000)
@@ -203,9 +208,20 @@ workedFigures =
     ∷ scheduled (row 0 0 0 (pos 0) 0 0 110000 70000 0 (pos 3001) curveA) gives 60020
     ∷ scheduled (row 0 0 0 (pos 0) 0 0 110000 70000 1 (pos 3001) curveA) gives 70000
     ∷ scheduled (row 0 0 0 (pos 0) 0 0 50000 0 0 (pos 3001) curveA) gives 50000
-    -- bonus is cut to it, and the economic rule takes it
+    -- with points bonus is cut to it, whatever is available, and the economic rule takes it
     ∷ bonusCut (onA 1 (pos 3001)) gives 60020
+    ∷ bonusCut (at60 4 110000 (pos 0) 0 0 110000) gives 60000
     ∷ economicScheduled (onA 1 (pos 3001)) gives 60020
+    -- with no points bonus is cut to what is available: not to the committed kW, and less both outages, at least 0
+    ∷ bonusCut (withoutCurve 4 0 40000 0 0 40000) gives 40000
+    ∷ bonusCut (withoutCurve 4 0 40000 10000 5000 40000) gives 25000
+    ∷ bonusCut (withoutCurve 4 0 40000 30000 20000 40000) gives 0
+    -- it is not cut to the emergency maximum, and not raised to the minimum
+    ∷ bonusCut (withoutCurve 4 0 40000 0 0 100) gives 40000
+    ∷ bonusCut (row 4 0 20000 (pos 0) 0 0 40000 30000 1 (pos 3000) []) gives 20000
+    -- the economic rule then takes the committed kW
+    ∷ economicScheduled (withoutCurve 4 0 40000 0 0 40000) gives 0
+    ∷ economicScheduled (withoutCurve 0 7 40000 0 0 40000) gives 7
     -- PRD without points is never considered, and a row is not considered for a region-wide event alone
     ∷ test (considered 0 (row 3 1 0 (pos 0) 0 0 0 0 0 (pos 1000000) [])) gives 0
     ∷ test (considered 1 (prd (pos 1999))) gives 0
@@ -231,6 +247,14 @@ workedFigures =
     ∷ bonus (at60 2 0 (pos 70000) 0 0 110000) 50000 gives 20000
     ∷ bonus (at60 3 0 (pos 70000) 0 0 110000) 50000 gives 20000
     ∷ bonus (at60 4 0 (pos 70000) 0 0 110000) 0 gives 60000
+    -- so a row of kind 4 without points that gave 35000 of 40000 kW has them as bonus, whatever its maximum;
+    -- and none if its outages are beyond what it owns
+    ∷ bonus (withoutCurve 4 0 40000 0 0 40000) 0 gives 35000
+    ∷ bonus (withoutCurve 4 0 40000 0 0 100) 0 gives 35000
+    ∷ bonus (withoutCurve 4 0 40000 30000 20000 40000) 0 gives 0
+    -- and one of kind 0 only where what is available is above what is expected
+    ∷ bonus (withoutCurve 0 30000 40000 15000 0 40000) 30000 gives 0
+    ∷ bonus (withoutCurve 0 30000 40000 5000 0 40000) 30000 gives 5000
     -- the numerator takes the actual of kinds 0 and 4 uncut, the bonus of kinds 1 and 3, and nothing of kind 2
     ∷ numeratorShare 0 (at60 0 0 (pos 70000) 0 0 110000) gives 70000
     ∷ numeratorShare 0 (at60 4 0 (pos 70000) 0 0 110000) gives 70000

@@ -1,3 +1,4 @@
 pub mod Assessment
 pub mod Values
+pub mod Claims
 pub mod Figures

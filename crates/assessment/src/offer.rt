@@ -30,13 +30,21 @@ pub fn available(row: Row) -> Kilowatts
     Kilowatts(row.owned).less(out)
 }
 
-// A row's offer: both are the scheduled kW.
+// A row's offer: with points both are the scheduled kW.
+// Without, bonus is cut to what is available, and the economic rule takes the committed kW.
 pub fn offered(file: &[u8], h: Header, row: Row) -> Offer
     requires { ⌜ Tabled (now file) h ⌝ }
     requires { ⌜ Sound (now file) (rowIn row) ⌝ }
     ensures { λ r. ⌜ r .cut .0 ≡ bonusCut (rowOf (now (file .entry)) (rowIn row)) ⌝ }
     ensures { λ r. ⌜ r .economic .0 ≡ economicScheduled (rowOf (now (file .entry)) (rowIn row)) ⌝ }
 {
+    let able = available(row);
+    if row.count == 0 {
+        return Offer {
+            cut: able,
+            economic: Kilowatts(row.committed),
+        };
+    }
     let own = scheduled(row, curve(file, h, row), row.count);
     Offer {
         cut: own,
