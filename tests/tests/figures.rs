@@ -207,6 +207,99 @@ fn expected_is_rounded_down_once() {
     );
 }
 
+/// The bonus of a row without points, alone in its file.
+fn bonus_without_curve(row: Row) -> u64 {
+    let words = one_row(NET_CONE, Row { id: 1, ..row }, &[]);
+    assert_eq!(words[3], 0, "nothing is excused without a curve");
+    words[5]
+}
+
+#[test]
+fn bonus_without_a_curve_is_cut_to_what_is_available() {
+    let river = Row {
+        kind: 4,
+        owned: 40_000,
+        metered: 35_000,
+        ..Row::default()
+    };
+    assert_eq!(bonus_without_curve(river), 35_000);
+    let more = Row {
+        metered: 45_000,
+        ..river
+    };
+    assert_eq!(bonus_without_curve(more), 40_000);
+    // The emergency maximum does not cut, and the economic minimum does not raise.
+    let limited = Row {
+        maximum: 100,
+        ..river
+    };
+    assert_eq!(bonus_without_curve(limited), 35_000);
+    for (planned, forced, bonus) in [
+        (10_000, 0, 30_000),
+        (0, 10_000, 30_000),
+        (39_000, 0, 1_000),
+        (20_000, 20_000, 0),
+        (20_000, 20_001, 0),
+        (4_000_000, 4_000_000, 0),
+    ] {
+        let out = Row {
+            planned,
+            forced,
+            minimum: 5_000,
+            maximum: 40_000,
+            online: 1,
+            ..river
+        };
+        assert_eq!(bonus_without_curve(out), bonus, "{planned} and {forced}");
+    }
+}
+
+#[test]
+fn bonus_without_a_curve_begins_at_the_expected() {
+    // Committed to 100 of 200 kW in all, so that half of it is expected beside a plant that gives nothing.
+    let bonus = |owned, forced| {
+        let row = Row {
+            id: 1,
+            committed: 100,
+            owned,
+            metered: 100,
+            forced,
+            ..Row::default()
+        };
+        let idle = Row {
+            id: 2,
+            committed: 100,
+            ..Row::default()
+        };
+        let rows = vec![row.words(), idle.words()];
+        let file = IntervalFile::new(NET_CONE, DAYS, 0, rows, vec![]);
+        let (ground, rows, _) = settled(&Ledger::new(NET_CONE, DAYS, &[1, 2]), &file);
+        assert_eq!((ground, rows[0][0], rows[0][1]), (0, 50, 100));
+        rows[0][5]
+    };
+    assert_eq!(bonus(200, 0), 50);
+    assert_eq!(bonus(80, 0), 30);
+    assert_eq!(bonus(80, 29), 1);
+    assert_eq!(bonus(80, 30), 0);
+    assert_eq!(bonus(40, 0), 0);
+}
+
+#[test]
+fn one_point_is_a_curve() {
+    let row = Row {
+        id: 1,
+        kind: 4,
+        owned: 40_000,
+        metered: 35_000,
+        maximum: 100,
+        count: 1,
+        ..Row::default()
+    };
+    for (price, bonus) in [(-1, 100), (0, 70), (1, 0)] {
+        assert_eq!(one_row(NET_CONE, row, &[point(price, 70)])[5], bonus);
+    }
+}
+
 const EXAMPLE_LINES: &str = "\
 1000,11,86667,60000,10000,26667,0,0,0,0
 1000,12,43333,25000,0,0,18333,0,557629,0

@@ -144,6 +144,15 @@ fn features(call: &SettleCall, result: &[u8]) -> Vec<&'static str> {
         note(kind == 0 && figure(5) > 0, "bonus of kind 0");
         note(kind == 4 && figure(5) > 0, "bonus of kind 4");
         note(kind == 2 && figure(5) > 0, "bonus of kind 2");
+        let out = word(6) + word(7);
+        let cut = u64::from(word(3).saturating_sub(out));
+        let bare = count == 0 && figure(5) > 0;
+        note(kind == 0 && bare, "bonus of kind 0 without a curve");
+        note(kind == 4 && bare, "bonus of kind 4 without a curve");
+        let is_cut = bare && figure(1) > cut && figure(0) + figure(5) == cut;
+        note((kind == 0 || kind == 4) && is_cut, "cut to the available");
+        let nothing = count == 0 && figure(1) > figure(0) && word(3) < out;
+        note(kind == 4 && nothing, "out, no bonus");
         note(kind == 0 && figure(0) < u64::from(word(2)), "expected less");
         note(word(4) as i32 <= 0 && figure(1) == 0, "no actual");
         note(
@@ -181,7 +190,7 @@ fn accepted_small_cases_show_every_rule() {
             }
         }
     }
-    assert_eq!(counts.len(), 36, "{counts:?}");
+    assert_eq!(counts.len(), 40, "{counts:?}");
     assert!(counts.values().all(|count| *count >= 15), "{counts:?}");
 }
 

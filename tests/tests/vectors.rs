@@ -9,7 +9,7 @@ use std::collections::{BTreeMap, BTreeSet};
 use std::fs;
 
 /// The rules that the reference has.
-const RULES: &str = "n7";
+const RULES: &str = "n5,n7";
 
 /// The ground, if the case has one.
 fn ground(operation: &Operation) -> Option<u32> {

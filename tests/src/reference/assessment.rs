@@ -25,7 +25,7 @@ pub struct Assessment {
     pub rows: Vec<Figures>,
 }
 
-/// Kinds 0 and 4 have outage, economic excusal and a bonus cut by the schedule.
+/// Kinds 0 and 4 have outage, economic excusal and a cut of the bonus.
 fn is_generator(row: &Row) -> bool {
     row.kind == GENERATION || row.kind == ENERGY_ONLY
 }
@@ -51,10 +51,24 @@ fn by_ratio(most: Whole, numerator: Whole, denominator: Whole) -> Whole {
     (most * numerator / denominator).min(most)
 }
 
-/// The kW above the expected; a generator earns none above its schedule.
+/// What a generator owns and has not out.
+fn available(row: &Row) -> Whole {
+    (row.owned - row.planned - row.forced).max(0)
+}
+
+/// The kW above which a generator earns no bonus: its schedule, or what is available if it has sent no offer.
+fn bonus_cut(row: &Row, points: &[Point]) -> Whole {
+    if points.is_empty() {
+        available(row)
+    } else {
+        scheduled(row, points)
+    }
+}
+
+/// The kW above the expected, of a generator up to its cut.
 fn bonus(row: &Row, points: &[Point], expected: Whole) -> Whole {
     let counted = if is_generator(row) {
-        actual(row).min(scheduled(row, points))
+        actual(row).min(bonus_cut(row, points))
     } else {
         actual(row)
     };
@@ -102,8 +116,7 @@ fn economic(row: &Row, points: &[Point], expected: Whole) -> Whole {
     if !is_generator(row) {
         return 0;
     }
-    let available = (row.owned - row.planned - row.forced).max(0);
-    let able = row.maximum.min(expected).min(available);
+    let able = row.maximum.min(expected).min(available(row));
     (able - scheduled(row, points).max(actual(row))).max(0)
 }
 

@@ -72,13 +72,19 @@ fn generator(row: &Row, curve: &[Point], expected: u64) -> Figures {
     let available = row.owned.saturating_sub(row.planned + row.forced);
     let able = row.maximum.min(expected).min(available);
     let economic = able.saturating_sub(scheduled.max(actual));
+    // a unit that sends no offer has no schedule to be held to
+    let most = if curve.is_empty() {
+        available
+    } else {
+        scheduled
+    };
     Figures {
         expected,
         actual,
         outage,
         economic,
         shortfall: expected.saturating_sub(actual + outage + economic),
-        bonus: actual.min(scheduled).saturating_sub(expected),
+        bonus: actual.min(most).saturating_sub(expected),
     }
 }
 

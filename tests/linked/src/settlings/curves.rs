@@ -45,7 +45,49 @@ pub fn cases() -> Vec<SettleCase> {
             }
         }
     }
+    cases.push(without_points());
     cases
+}
+
+/// Generators without points: outages around the owned kW, and actuals around what these leave, with an emergency
+/// maximum that is above all of it or below.
+fn without_points() -> SettleCase {
+    let owned = 100;
+    let outages = [(0, 0), (100, 0), (0, 101), (60, 39), (60, 40), (60, 41)];
+    let mut rows = Vec::new();
+    for (planned, forced) in outages.into_iter().chain([(KW_MOST, KW_MOST)]) {
+        let cut = owned as i32 - (planned + forced).min(owned) as i32;
+        for metered in [cut - 1, cut, cut + 1, KW_MOST as i32] {
+            for (kind, committed) in [(0, 0), (0, 5), (0, 300), (4, 0)] {
+                for maximum in [0, KW_MOST] {
+                    rows.push(Row {
+                        id: 7 * (rows.len() as u32 + 1),
+                        kind,
+                        committed,
+                        owned,
+                        metered,
+                        planned,
+                        forced,
+                        maximum,
+                        minimum: maximum.min(200),
+                        online: 1,
+                        ..Row::default()
+                    });
+                }
+            }
+        }
+    }
+    settling_by(&rows, Vec::new())
+}
+
+/// A settling of these rows.
+fn settling_by(rows: &[Row], points: Vec<[u32; 2]>) -> SettleCase {
+    let ids: Vec<u32> = rows.iter().map(|row| row.id).collect();
+    let words = rows.iter().map(Row::words).collect();
+    settling_of(
+        &ids,
+        IntervalFile::new(NET_CONE, DAYS, 1_000, words, points),
+    )
 }
 
 /// Ranges that cut nothing, everything, and the ends of the curve.
@@ -95,16 +137,8 @@ fn all_rows(points: &[(i32, u32)], range: (u32, u32)) -> SettleCase {
             }
         }
     }
-    let ids: Vec<u32> = rows.iter().map(|row| row.id).collect();
-    let words = rows.iter().map(Row::words).collect();
-    let points = points
-        .iter()
-        .map(|(price, kw)| point(*price, *kw))
-        .collect();
-    settling_of(
-        &ids,
-        IntervalFile::new(NET_CONE, DAYS, 1_000, words, points),
-    )
+    let points = points.iter().map(|(price, kw)| point(*price, *kw));
+    settling_by(&rows, points.collect())
 }
 
 #[cfg(test)]
