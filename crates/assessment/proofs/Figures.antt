@@ -16,6 +16,10 @@ use Rattle.assessment.specs.Figures.{
   withForced,
   withPlanned,
   eachKind,
+  importing,
+  imported,
+  sharedWithImporter,
+  importerOf,
   unshared,
   onePoint,
   oneShort,
@@ -31,5 +35,5 @@ proved-figures = refl
 
 -- the figures that tell each rule from the wrong ones nearest to it are as stated
 pub worked-figures : WorkedFigures
-unfolding WorkedFigures workedFigures curveA onA prd withBonus shared row11 row12 row13 row14 listingRows withForced withPlanned eachKind unshared onePoint oneShort computing
+unfolding WorkedFigures workedFigures curveA onA prd withBonus shared row11 row12 row13 row14 listingRows withForced withPlanned eachKind importing imported sharedWithImporter importerOf unshared onePoint oneShort computing
 worked-figures = refl

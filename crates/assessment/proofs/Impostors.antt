@@ -3,7 +3,7 @@ use Prim.Native.Nat.{ℕ, _-_, min, max}
 use mathlib.Core.Path.{_≡_}
 use native.Mathlib.Omega.{arith}
 use lib.IntN.{pos}
-use Rattle.reading.specs.Interval.{Row, Kind, generation, demand, efficiency, responsive, energyOnly, noKind, kindOf}
+use Rattle.reading.specs.Interval.{Row, Kind, generation, demand, efficiency, responsive, energyOnly, importer, noKind, kindOf}
 use Rattle.assessment.specs.Assessment.{
   actual,
   scheduled,
@@ -27,6 +27,7 @@ cutShareAs demand r = numeratorShareAs demand r
 cutShareAs efficiency r = numeratorShareAs efficiency r
 cutShareAs responsive r = numeratorShareAs responsive r
 cutShareAs energyOnly r = min (actual r) (scheduled r)
+cutShareAs importer r = numeratorShareAs importer r
 cutShareAs noKind r = numeratorShareAs noKind r
 
 -- uses the scheduled-cut actual in the numerator

@@ -83,14 +83,14 @@ pub expected-le : (q : Ratio) (r : Row) → expected q r ≤ r .committed
 unfolding expected expectedAs
 expected-le q r =
     each-kind (λ k. expectedAs k q r ≤ r .committed)
-    (portion-le q (r .committed)) (omega arith) (omega arith) (omega arith) (omega arith) (omega arith) (kindOf (r .kind))
+    (portion-le q (r .committed)) (omega arith) (omega arith) (omega arith) (omega arith) (omega arith) (omega arith) (kindOf (r .kind))
 
 -- the kW that a bonus is taken from are at most the actual
 bonus-actual-le : (k : Kind) (r : Row) → bonusActualAs k r ≤ actual r
 unfolding bonusActualAs
 bonus-actual-le k r =
     each-kind (λ k. bonusActualAs k r ≤ actual r)
-    (omega arith) (omega arith) (omega arith) (omega arith) (omega arith) (omega arith) k
+    (omega arith) (omega arith) (omega arith) (omega arith) (omega arith) (omega arith) (omega arith) k
 
 -- a bonus is at most what the actual has above the expected kW
 bonus-le : (r : Row) (e : ℕ) → bonus r e ≤ actual r - e
@@ -107,14 +107,14 @@ outage-le : (r : Row) → outage r ≤ r .planned
 unfolding outage outageAs
 outage-le r =
     each-kind (λ k. outageAs k r ≤ r .planned)
-    (omega arith) (omega arith) (omega arith) (omega arith) (omega arith) (omega arith) (kindOf (r .kind))
+    (omega arith) (omega arith) (omega arith) (omega arith) (omega arith) (omega arith) (omega arith) (kindOf (r .kind))
 
 -- the economic kW are at most the expected kW
 economic-le : (r : Row) (e : ℕ) → economic r e ≤ e
 unfolding economic economicAs economicRule
 economic-le r e =
     each-kind (λ k. economicAs k r e ≤ e)
-    (omega arith) (omega arith) (omega arith) (omega arith) (omega arith) (omega arith) (kindOf (r .kind))
+    (omega arith) (omega arith) (omega arith) (omega arith) (omega arith) (omega arith) (omega arith) (kindOf (r .kind))
 
 -- with points both are the scheduled kW; without, neither leaves the economic rule anything,
 -- as no more is expected than the committed kW
@@ -201,7 +201,7 @@ unfolding numeratorShareAs
 share-le k r =
     let reduced : bonus r (r .committed) ≤ actual r = omega (arith, bonus-le r (r .committed)) in
     each-kind (λ k. numeratorShareAs k r ≤ actual r)
-    (omega arith) reduced (omega arith) reduced (omega arith) (omega arith) k
+    (omega arith) reduced (omega arith) reduced (omega arith) (omega arith) (omega arith) k
 
 -- a row that ground 13 does not refuse adds at most twice the most kW to the numerator
 pub numerator-share-le : (regionWide : ℕ) (r : Row) → RowIn r → numeratorShare regionWide r ≤ mostActual
@@ -233,7 +233,7 @@ pub denominator-share-le : (r : Row) → RowIn r → denominatorShare r ≤ most
 unfolding denominatorShare denominatorShareAs
 denominator-share-le r i =
     each-kind (λ k. denominatorShareAs k r ≤ mostKilowatts)
-    (i .committed) (omega arith) (omega arith) (omega arith) (omega arith) (omega arith) (kindOf (r .kind))
+    (i .committed) (omega arith) (omega arith) (omega arith) (omega arith) (omega arith) (omega arith) (kindOf (r .kind))
 
 -- the denominator is at most the most kW for each of the most rows
 pub denominator-le : (rs : List Row) → length rs ≤ mostRows → ((r : Row) → List·Memᴰ r rs → RowIn r)

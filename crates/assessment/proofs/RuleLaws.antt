@@ -2,11 +2,11 @@
 use Prim.Native.Nat.{ℕ, _+_, _-_, _≤_, _<_, min}
 use mathlib.Core.Path.{_≡_, refl, _∙_}
 use mathlib.Core.Logic.{_⊎_, inl, inr, ⊎-elim}
-use mathlib.Core.Bool.{true, false, cond, false≢true}
+use mathlib.Core.Bool.{Bool, true, false, cond, false≢true}
 use native.Mathlib.Omega.{arith}
 use borrow.Author.Tests.{eq-eqb, ne-eqb, lt-leb}
 use lib.IntN.{ℤ, pos, negsuc, natAbs}
-use lib.Dec.{ltb, leb}
+use lib.Dec.{ltb, leb, eqb}
 use lib.Signed.{mag}
 use Rattle.reading.specs.Interval.{Header, Row, kindOf}
 use Rattle.assessment.specs.Assessment.{
@@ -59,6 +59,11 @@ pub imports-counted : (h : Header) → h .regionWide ≡ 1 → orZero (h .import
 unfolding importShare
 imports-counted h e = rw (eq-eqb (h .regionWide) 1 e)
 
+-- nothing is 0, considered or not
+none-either : (t : Bool) → _≡_ {A = ℕ} 0 (cond t 0 0)
+none-either true = refl
+none-either false = refl
+
 -- a kind word of a row that produces: 0 or 4
 abbrev pub Producing : ℕ → Type 0
 Producing k = (k ≡ 0) ⊎ (k ≡ 4)
@@ -71,12 +76,24 @@ module _ (regionWide : ℕ) (r : Row) where
   unfolding considered consideredAs kindOf
   considered-responsive e = rw e
 
+  -- a row of kind 5 is considered where the event is region-wide
+  pub considered-importer : r .kind ≡ 5 → eqb regionWide 1 ≡ considered regionWide r
+  unfolding considered consideredAs kindOf
+  considered-importer e = rw e
+
   -- a row with another word is considered where that is of a kind
-  pub considered-other : (r .kind ≡ 3 → ⊥) → leb (r .kind) 4 ≡ considered regionWide r
+  pub considered-other : (r .kind ≡ 3 → ⊥) → (r .kind ≡ 5 → ⊥) → leb (r .kind) 4 ≡ considered regionWide r
   unfolding considered consideredAs
   considered-other =
-      each-word (λ k kind. (k ≡ 3 → ⊥) → leb k 4 ≡ consideredAs kind regionWide r)
-      (λ n. refl) (λ n. refl) (λ n. refl) (λ n. absurd (n refl)) (λ n. refl) (λ k high n. lt-leb k 4 high) (r .kind)
+      each-word (λ k kind. (k ≡ 3 → ⊥) → (k ≡ 5 → ⊥) → leb k 4 ≡ consideredAs kind regionWide r)
+      (λ s i. refl)
+      (λ s i. refl)
+      (λ s i. refl)
+      (λ s i. absurd (s refl))
+      (λ s i. refl)
+      (λ s i. absurd (i refl))
+      (λ k high s i. lt-leb k 4 (omega arith))
+      (r .kind)
 
   -- kinds 0 and 4 add their actual to the numerator
   pub numerator-producing : Producing (r .kind) → actual r ≡ numeratorShare regionWide r
@@ -99,7 +116,7 @@ module _ (regionWide : ℕ) (r : Row) where
   unfolding numeratorShare ifConsidered
   numerator-left-out c = rw c
 
-  -- nor does one of kind 2 or of no kind
+  -- nor does one of kind 2 or 5 or of no kind
   pub numerator-other : (Producing (r .kind) → ⊥) → (r .kind ≡ 1 → ⊥) → (r .kind ≡ 3 → ⊥)
       → 0 ≡ numeratorShare regionWide r
   unfolding numeratorShare numeratorShareAs ifConsidered considered consideredAs
@@ -112,6 +129,7 @@ module _ (regionWide : ℕ) (r : Row) where
       (λ p d s. refl)
       (λ p d s. absurd (s refl))
       (λ p d s. absurd (p (inr refl)))
+      (λ p d s. none-either (eqb regionWide 1))
       (λ k high p d s. refl)
       (r .kind)
 
@@ -142,6 +160,7 @@ module _ (regionWide : ℕ) (r : Row) where
       (λ p c. (refl, (refl, refl)))
       (λ p c. (refl, (refl, refl)))
       (λ p c. absurd (p (inr refl)))
+      (λ p c. (refl, (refl, refl)))
       (λ k high p c. absurd (false≢true c))
       (r .kind)
 
@@ -179,7 +198,7 @@ module _ (r : Row) where
   unfolding denominatorShareAs denominatorShare
   denominator-other =
       each-word (λ k kind. (k ≡ 0 → ⊥) → 0 ≡ denominatorShareAs kind r)
-      (λ g. absurd (g refl)) (λ g. refl) (λ g. refl) (λ g. refl) (λ g. refl) (λ k high g. refl) (r .kind)
+      (λ g. absurd (g refl)) (λ g. refl) (λ g. refl) (λ g. refl) (λ g. refl) (λ g. refl) (λ k high g. refl) (r .kind)
 
   -- of kind 0, the ratio's part of the committed kW is expected
   pub expected-generation : (q : Ratio) → r .kind ≡ 0 → portion q (r .committed) ≡ expected q r
@@ -196,10 +215,11 @@ module _ (r : Row) where
       (λ g h. refl)
       (λ g h. refl)
       (λ g h. absurd (omega arith))
+      (λ g h. absurd (omega arith))
       (λ k high g h. absurd (omega arith))
       (r .kind)
 
-  -- of kind 4 and of no kind, nothing is
+  -- of kinds 4 and 5 and of no kind, nothing is
   pub expected-high : (q : Ratio) → 4 ≤ r .kind → 0 ≡ expected q r
   unfolding expected expectedAs
   expected-high q =
@@ -208,6 +228,7 @@ module _ (r : Row) where
       (λ h. absurd (omega arith))
       (λ h. absurd (omega arith))
       (λ h. absurd (omega arith))
+      (λ h. refl)
       (λ h. refl)
       (λ k high h. refl)
       (r .kind)

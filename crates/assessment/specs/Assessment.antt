@@ -7,7 +7,7 @@ use lib.Dec.{ltb, eqb}
 use lib.Signed.{leZ, ltZ}
 use Rattle.words.specs.Lists.{sum}
 use Rattle.reading.specs.Block.{Terms}
-use Rattle.reading.specs.Interval.{Header, Point, Row, Kind, generation, demand, efficiency, responsive, energyOnly, noKind, kindOf}
+use Rattle.reading.specs.Interval.{Header, Point, Row, Kind, generation, demand, efficiency, responsive, energyOnly, importer, noKind, kindOf}
 
 -- the ratio is printed in millionths
 abbrev pub wholeRatio : ℕ
@@ -89,13 +89,14 @@ bonusCut r = bonusCutBy (r .curve) r
 unfoldable pub economicScheduled : Row → ℕ
 economicScheduled r = scheduled r
 
--- Considered in an event whose region-wide word is given: every row of a kind; of PRD rows only those whose last point at or below the LMP is above 0 kW
+-- Considered, by the event's region-wide word: PRD if its last point at or below the LMP is above 0 kW, importers if region-wide, other kinds always
 unfoldable pub consideredAs : Kind → ℕ → Row → Bool
 consideredAs generation regionWide r = true
 consideredAs demand regionWide r = true
 consideredAs efficiency regionWide r = true
 consideredAs responsive regionWide r = ltb 0 (firstKw (fromLastReached (r .lmp) (r .curve)))
 consideredAs energyOnly regionWide r = true
+consideredAs importer regionWide r = eqb regionWide 1
 consideredAs noKind regionWide r = false
 
 -- Considered, by the kind word
@@ -115,13 +116,14 @@ pub record Ratio : Type 0 where
 unfoldable pub portion : Ratio → ℕ → ℕ
 portion q whole = cond (eqb (q .denominator) 0) 0 (min (whole * q .numerator / q .denominator) whole)
 
--- Expected: by the ratio for kind 0, the committed kW for kinds 1, 2 and 3, 0 for kind 4
+-- Expected: by the ratio for kind 0, the committed kW for kinds 1, 2 and 3, 0 for kinds 4 and 5
 unfoldable pub expectedAs : Kind → Ratio → Row → ℕ
 expectedAs generation q r = portion q (r .committed)
 expectedAs demand q r = r .committed
 expectedAs efficiency q r = r .committed
 expectedAs responsive q r = r .committed
 expectedAs energyOnly q r = 0
+expectedAs importer q r = 0
 expectedAs noKind q r = 0
 
 -- Expected, by the kind word
@@ -135,6 +137,7 @@ bonusActualAs demand r = actual r
 bonusActualAs efficiency r = actual r
 bonusActualAs responsive r = actual r
 bonusActualAs energyOnly r = min (actual r) (bonusCut r)
+bonusActualAs importer r = actual r
 bonusActualAs noKind r = 0
 
 -- Bonus, of a row of which so many kW are expected: actual minus expected where positive
@@ -148,6 +151,7 @@ numeratorShareAs demand r = bonus r (r .committed)
 numeratorShareAs efficiency r = 0
 numeratorShareAs responsive r = bonus r (r .committed)
 numeratorShareAs energyOnly r = actual r
+numeratorShareAs importer r = 0
 numeratorShareAs noKind r = 0
 
 -- the same by the kind word; a row not considered adds nothing
@@ -169,6 +173,7 @@ denominatorShareAs demand r = 0
 denominatorShareAs efficiency r = 0
 denominatorShareAs responsive r = 0
 denominatorShareAs energyOnly r = 0
+denominatorShareAs importer r = 0
 denominatorShareAs noKind r = 0
 
 -- the same by the kind word
@@ -194,6 +199,7 @@ outageAs demand r = 0
 outageAs efficiency r = 0
 outageAs responsive r = 0
 outageAs energyOnly r = r .planned
+outageAs importer r = 0
 outageAs noKind r = 0
 
 -- Outage, by the kind word
@@ -211,6 +217,7 @@ economicAs demand r expect = 0
 economicAs efficiency r expect = 0
 economicAs responsive r expect = 0
 economicAs energyOnly r expect = economicRule r expect
+economicAs importer r expect = 0
 economicAs noKind r expect = 0
 
 -- Economic, by the kind word

@@ -36,6 +36,8 @@ use Rattle.assessment.specs.Assessment.{
   fullCharge,
   charge,
   chargedRow,
+  assessed,
+  totalBonus,
   pool,
   credit,
   credits,
@@ -170,9 +172,26 @@ withPlanned owned = rowFigures 0 (over 1 1) (at60 0 owned (pos 50000) 30000 0 11
 abbrev pub onKind : ℕ → ℕ → Row
 onKind kind committed = row kind committed 0 (pos 0) 0 0 0 0 0 (pos 0) []
 
--- one row of each kind from 0 to 4
+-- one row of each kind from 0 to 5
 unfoldable pub eachKind : List Row
-eachKind = onKind 0 1 ∷ onKind 1 10 ∷ onKind 2 100 ∷ onKind 3 1000 ∷ onKind 4 10000 ∷ []
+eachKind = onKind 0 1 ∷ onKind 1 10 ∷ onKind 2 100 ∷ onKind 3 1000 ∷ onKind 4 10000 ∷ onKind 5 100000 ∷ []
+
+-- an importer that metered so many kW, with an adjustment, with outages and a curve that ends at 0 kW
+unfoldable pub importing : ℤ → ℤ → Row
+importing metered adjustment = adjusted 5 0 50000 metered adjustment 7 5 50000 0 1 (pos 3000) (at (pos 3000) 0 ∷ [])
+
+-- the figures of one that imported 10000 kW less 2000, in an event
+unfoldable pub imported : ℕ → RowFigures
+imported regionWide = rowFigures regionWide (over 1 1) (importing (pos 10000) (negsuc 1999))
+
+-- an importer of 30000 kW and a demand resource with a bonus of 10001, with 557628 cents carried into an event
+unfoldable pub sharedWithImporter : ℕ → Assessed
+sharedWithImporter regionWide =
+    assessed (terms 30000) [] 557628 (headerWith 1000 365 regionWide (pos 0)) (importing (pos 30000) (pos 0) ∷ row14 ∷ [])
+
+-- the importer of these, charged nothing
+unfoldable pub importerOf : ℕ → ChargedRow
+importerOf regionWide = chargedRow (terms 30000) [] regionWide (over 0 0) (importing (pos 30000) (pos 0))
 
 -- a pool of 557628 cents and no bonus
 unfoldable pub unshared : Assessed
@@ -236,11 +255,12 @@ workedFigures =
     -- what it would be charged and credited if it were
     ∷ onePoint (pos 500) (pos 1000) .charge gives 60833
     ∷ credit shared (onePoint (pos 500) (pos 5000)) gives 27880
-    -- the ratio touches kind 0 alone: kinds 1, 2 and 3 are expected to give what they committed, kind 4 nothing
+    -- the ratio touches kind 0 alone: kinds 1, 2 and 3 are expected to give what they committed, kinds 4 and 5 nothing
     ∷ expected (over 1 2) (onKind 1 1000) gives 1000
     ∷ expected (over 1 2) (onKind 2 1000) gives 1000
     ∷ expected (over 1 2) (onKind 3 1000) gives 1000
     ∷ expected (over 1 2) (onKind 4 1000) gives 0
+    ∷ expected (over 1 2) (onKind 5 1000) gives 0
     -- the bonus of kinds 0 and 4 is cut to the scheduled kW, that of kinds 1, 2 and 3 is not
     ∷ bonus (at60 0 0 (pos 70000) 0 0 110000) 50000 gives 10000
     ∷ bonus (at60 1 0 (pos 70000) 0 0 110000) 50000 gives 20000
@@ -327,6 +347,28 @@ workedFigures =
     ∷ added 30 7 (account 1 16400) .largest gives 1
     -- the largest charge: the most kW short, on the highest terms
     ∷ mostCharge gives 813333333
+    -- an importer in a region-wide event: actual, and bonus without a cut; nothing is expected, and nothing excused
+    ∷ imported 1 .actual gives 8000
+    ∷ imported 1 .bonus gives 8000
+    ∷ imported 1 .expected gives 0
+    ∷ imported 1 .outage gives 0
+    ∷ imported 1 .economic gives 0
+    ∷ imported 1 .shortfall gives 0
+    ∷ rowFigures 1 (over 1 1) (importing (pos 2) (negsuc 4)) .actual gives 0
+    -- in another event it is not considered
+    ∷ imported 0 .actual gives 0
+    ∷ imported 0 .bonus gives 0
+    -- its bonus shares the pool with a demand resource's, and adds nothing to the numerator
+    ∷ totalBonus (sharedWithImporter 1) gives 40001
+    ∷ credit (sharedWithImporter 1) (importerOf 1) gives 418210
+    ∷ credit (sharedWithImporter 1) (withBonus 10001) gives 139417
+    ∷ credits (sharedWithImporter 1) gives 557627
+    ∷ sharedWithImporter 1 .ratio .numerator gives 10001
+    ∷ sharedWithImporter 1 .ratio .denominator gives 0
+    -- in another event it has no share
+    ∷ totalBonus (sharedWithImporter 0) gives 10001
+    ∷ credit (sharedWithImporter 0) (importerOf 0) gives 0
+    ∷ sharedWithImporter 0 .ratio .numerator gives 10001
     -- with no bonus nothing is credited, and the whole pool is carried
     ∷ credits unshared gives 0
     ∷ carriedOn unshared gives 557628

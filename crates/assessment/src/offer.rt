@@ -1,10 +1,11 @@
-// What a row's curve says at its LMP: to what a bonus is cut, what the economic rule takes, and whether a PRD row is considered.
+// What a row's curve says at its LMP: to what a bonus is cut, what the economic rule takes, and whether a row is considered.
 
 use crate::curve::consumes;
 use crate::curve::scheduled;
 use crate::units::Kilowatts;
 use reading::header::Header;
 use reading::rows::ENERGY_ONLY;
+use reading::rows::IMPORTER;
 use reading::rows::RESPONSIVE;
 use reading::rows::Row;
 use reading::rows::curve;
@@ -52,7 +53,7 @@ pub fn offered(file: &[u8], h: Header, row: Row) -> Offer
     }
 }
 
-// Whether a row is considered, by the kind word.
+// Whether a row is considered, by the kind word: a PRD row by its curve, an importer by the event.
 pub fn considered(file: &[u8], h: Header, row: Row) -> bool
     requires { ⌜ Tabled (now file) h ⌝ }
     requires { ⌜ Sound (now file) (rowIn row) ⌝ }
@@ -61,6 +62,7 @@ pub fn considered(file: &[u8], h: Header, row: Row) -> bool
     let kind = row.kind;
     match kind {
         RESPONSIVE => consumes(curve(file, h, row), row.count, row.lmp),
+        IMPORTER => h.region_wide == 1,
         _ => kind <= ENERGY_ONLY,
     }
 }

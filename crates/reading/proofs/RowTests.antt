@@ -2,7 +2,9 @@
 use Prim.Native.Nat.{ℕ, _≤_, _<_}
 use mathlib.Core.Path.{_≡_}
 use mathlib.Core.List.{List, [], _∷_}
-use mathlib.Core.Bool.{true, false, _&&_, or-true, or-false}
+use mathlib.Core.Bool.{true, false, _||_, _&&_, or-true, or-false}
+use native.Mathlib.Decide.{decLe}
+use native.Mathlib.Omega.{arith}
 use borrow.Author.Tests.{lt-ltb, le-ltb, eq-eqb, ne-eqb}
 use lib.Dec.{ltb, eqb}
 use Rattle.words.specs.Lists.{any}
@@ -77,8 +79,8 @@ module _ (w : RowWords) where
   unfolding rowOutside
   lmp-beyond h = rw (h, or-true)
 
-  -- a row that passes them all is outside just where it is of kind 4 and has a commitment
-  pub last-test : Passes w → rowOutside w ≡ (eqb (w .kind) 4 && ltb 0 (w .committed))
+  -- a row that passes them all is outside just where it is of kind 4 or 5 and has a commitment
+  pub last-test : Passes w → rowOutside w ≡ ((eqb (w .kind) 4 || eqb (w .kind) 5) && ltb 0 (w .committed))
   unfolding rowOutside
   last-test r =
       rw (
@@ -91,10 +93,14 @@ module _ (w : RowWords) where
         r .lmp,
       )
 
-  -- a row that passes them all and is not of kind 4 is not refused
-  pub other-kind : Passes w → (w .kind ≡ 4 → ⊥) → rowOutside w ≡ false
-  other-kind r h = rw (last-test r, ne-eqb (w .kind) 4 h)
+  -- a row that passes them all and is of a kind below 4 is not refused
+  pub may-commit : Passes w → w .kind < 4 → rowOutside w ≡ false
+  may-commit r h = rw (last-test r, ne-eqb (w .kind) 4 (λ e. omega arith), ne-eqb (w .kind) 5 (λ e. omega arith))
 
-  -- a row of kind 4 that passes them all is refused just where it has a commitment
-  pub energy-only : Passes w → w .kind ≡ 4 → rowOutside w ≡ ltb 0 (w .committed)
-  energy-only r h = rw (last-test r, eq-eqb (w .kind) 4 h)
+  -- a row of kind 4 or 5 that passes them all is refused just where it has a commitment
+  pub may-not-commit : Passes w → 4 ≤ w .kind → rowOutside w ≡ ltb 0 (w .committed)
+  may-not-commit r h =
+      elim (decLe (w .kind) 4) [
+        | yes low ↦ rw (last-test r, eq-eqb (w .kind) 4 (omega arith))
+        | no high ↦ rw (last-test r, ne-eqb (w .kind) 4 (λ e. omega arith), eq-eqb (w .kind) 5 (omega (arith, r .kind)))
+      ]

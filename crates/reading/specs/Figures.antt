@@ -214,8 +214,12 @@ unfoldable pub rowGroundFigures : List Figure
 rowGroundFigures =
     test (rowOutside (wordsWith 3 4000000 4000000 (pos 4000000) (negsuc 3999999) 4000000 4000000 4000000 4000000 1 (pos 1000000) 0 0)) gives 0
     ∷ test (rowOutside (wordsWith 4 0 0 (negsuc 3999999) (pos 4000000) 0 0 0 0 0 (negsuc 999999) 0 0)) gives 0
-    ∷ test (rowOutside (wordsWith 5 0 0 (pos 0) (pos 0) 0 0 0 0 0 (pos 0) 0 0)) gives 1
+    ∷ test (rowOutside (wordsWith 5 0 0 (negsuc 3999999) (pos 4000000) 0 0 0 0 0 (negsuc 999999) 0 0)) gives 0
+    ∷ test (rowOutside (wordsWith 6 0 0 (pos 0) (pos 0) 0 0 0 0 0 (pos 0) 0 0)) gives 1
     ∷ test (rowOutside (wordsWith 4 1 0 (pos 0) (pos 0) 0 0 0 0 0 (pos 0) 0 0)) gives 1
+    ∷ test (rowOutside (wordsWith 5 1 0 (pos 0) (pos 0) 0 0 0 0 0 (pos 0) 0 0)) gives 1
+    -- the words of an importer that no rule uses are held to the same bounds
+    ∷ test (rowOutside (wordsWith 5 0 4000001 (pos 0) (pos 0) 0 0 0 0 0 (pos 0) 0 0)) gives 1
     ∷ test (rowOutside (wordsWith 0 4000001 0 (pos 0) (pos 0) 0 0 0 0 0 (pos 0) 0 0)) gives 1
     ∷ test (rowOutside (wordsWith 0 0 4000001 (pos 0) (pos 0) 0 0 0 0 0 (pos 0) 0 0)) gives 1
     ∷ test (rowOutside (wordsWith 0 0 0 (pos 4000001) (pos 0) 0 0 0 0 0 (pos 0) 0 0)) gives 1

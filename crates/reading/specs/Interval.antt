@@ -53,7 +53,7 @@ mostRowPoints = 10
 
 -- the highest kind word
 abbrev pub lastKind : ℕ
-lastKind = 4
+lastKind = 5
 
 -- the most kW of any word of a row or a point
 abbrev pub mostKilowatts : ℕ
@@ -200,16 +200,17 @@ rowOf f w = rowWith w (curveOf f w)
 unfoldable pub rowsOf : List ℕ → List Row
 rowsOf f = entries rowBytes (λ b. rowOf f (rowWords b)) (headerOf f .rowCount) (drop (headerOf f .rowsOffset) f)
 
--- what a kind word says; a word above 4 is of no kind, and ground 13 refuses it
+-- what a kind word says; a word above 5 is of no kind, and ground 13 refuses it
 pub data Kind : Type 0 where
   generation : Kind
   demand : Kind
   efficiency : Kind
   responsive : Kind
   energyOnly : Kind
+  importer : Kind
   noKind : Kind
 
--- by the word: 0 generation or storage, 1 demand resource, 2 energy efficiency, 3 price responsive demand (PRD), 4 energy-only
+-- by the word: 0 generation or storage, 1 demand resource, 2 energy efficiency, 3 price responsive demand (PRD), 4 energy-only, 5 importer
 unfoldable pub kindOf : ℕ → Kind
 kindOf k =
     cond (eqb k 0) generation
@@ -217,7 +218,8 @@ kindOf k =
     (cond (eqb k 2) efficiency
     (cond (eqb k 3) responsive
     (cond (eqb k 4) energyOnly
-    noKind))))
+    (cond (eqb k 5) importer
+    noKind)))))
 
 -- ground 7: the file's length, or its format
 unfoldable pub notAFile : List ℕ → Bool
@@ -237,14 +239,14 @@ tablesMisplaced f =
     || not (liesFrom headerBytes (length f) (h .rowsOffset) rows) || not (liesFrom headerBytes (length f) (h .pointsOffset) points)
     || overlap (h .rowsOffset) rows (h .pointsOffset) points
 
--- ground 13, of one row: its kind, words 2, 3, 6, 7, 8 and 9, words 4 and 5, minimum and maximum, online, LMP, and kind 4 with a commitment
+-- ground 13, of one row: its kind, words 2, 3, 6, 7, 8 and 9, words 4 and 5, minimum and maximum, online, LMP, and kind 4 or 5 with a commitment
 unfoldable pub rowOutside : RowWords → Bool
 rowOutside w =
     ltb lastKind (w .kind)
     || any (ltb mostKilowatts) (w .committed ∷ w .owned ∷ w .planned ∷ w .forced ∷ w .maximum ∷ w .minimum ∷ [])
     || beyond mostKilowatts (w .metered) || beyond mostKilowatts (w .adjustment)
     || ltb (w .maximum) (w .minimum) || ltb 1 (w .online) || beyond mostPrice (w .lmp)
-    || (eqb (w .kind) 4 && ltb 0 (w .committed))
+    || ((eqb (w .kind) 4 || eqb (w .kind) 5) && ltb 0 (w .committed))
 
 -- a point's price or kW is out of range
 unfoldable pub pointOutside : Point → Bool

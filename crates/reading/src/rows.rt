@@ -13,7 +13,7 @@ ghost use lib.Signed.{mag};
 ghost use Rattle.reading.specs.Interval.{rowBytes, pointBytes, rowWords, rowWordsAt, pointAt, curvePart, curveMisplaced};
 ghost use Rattle.reading.specs.Values.{rowIn, pointIn, Tabled};
 
-// Kinds of rows: generation or storage, demand resource, energy efficiency, price responsive demand (PRD), energy-only.
+// Kinds of rows: generation or storage, demand resource, energy efficiency, price responsive demand (PRD), energy-only, importer.
 pub const GENERATION: u64 = 0;
 
 pub const DEMAND: u64 = 1;
@@ -23,6 +23,8 @@ pub const EFFICIENCY: u64 = 2;
 pub const RESPONSIVE: u64 = 3;
 
 pub const ENERGY_ONLY: u64 = 4;
+
+pub const IMPORTER: u64 = 5;
 
 // A row's words; the last two name its points, the first of them and their number.
 pub struct Row {

@@ -3,6 +3,7 @@
 use crate::header::Header;
 use crate::header::beyond;
 use crate::rows::ENERGY_ONLY;
+use crate::rows::IMPORTER;
 use crate::rows::Point;
 use crate::rows::Row;
 use crate::rows::curve;
@@ -51,7 +52,7 @@ fn kilowatts_outside(row: Row) -> bool
 pub fn row_outside(row: Row) -> bool
     ensures { λ r. ⌜ r ≡ rowOutside (rowIn row) ⌝ }
 {
-    if ENERGY_ONLY < row.kind {
+    if IMPORTER < row.kind {
         return true;
     }
     if kilowatts_outside(row) {
@@ -72,7 +73,7 @@ pub fn row_outside(row: Row) -> bool
     if beyond(row.lmp, MOST_PRICE) {
         return true;
     }
-    if row.kind != ENERGY_ONLY {
+    if row.kind < ENERGY_ONLY {
         return false;
     }
     0 < row.committed

@@ -133,7 +133,9 @@ settlingFigures =
     ∷ settles (fileWith 30000 365 1000 0 0 (row14 ++ row14) []) 320 gives 12
     ∷ settles (fileWith 30000 365 1000 0 0 (15 ∷ drop 1 row14) []) 320 gives 12
     ∷ settles (fileWith 30000 365 1000 0 0 (rowOfKind 4) []) 320 gives 0
-    ∷ settles (fileWith 30000 365 1000 0 0 (rowOfKind 5) []) 320 gives 13
+    ∷ settles (fileWith 30000 365 1000 0 0 (rowOfKind 5) []) 320 gives 0
+    ∷ settles (fileWith 30000 365 1000 1 0 (12 ∷ 5 ∷ 1 ∷ drop 3 (rowOfKind 5)) []) 320 gives 13
+    ∷ settles (fileWith 30000 365 1000 0 0 (rowOfKind 6) []) 320 gives 13
     ∷ settles (fileWith 30000 365 1000 0 0 (rowWithPoints 0 2) (1 ∷ 1 ∷ 1 ∷ 1 ∷ [])) 320 gives 0
     ∷ settles (fileWith 30000 365 1000 0 0 (rowWithPoints 0 2) (1 ∷ 1 ∷ 0 ∷ 1 ∷ [])) 320 gives 14
     ∷ settles (fileWith 30000 365 1000 0 0 (rowWithPoints 0 2) (1 ∷ 1 ∷ 1 ∷ 0 ∷ [])) 320 gives 14
@@ -153,9 +155,9 @@ orderFigures =
     ∷ settling settledListing (listingFile 1000 2 0) (buffer 320) .ground gives 9
     ∷ settling settledListing (fileWith 30000 365 1000 0 0 [] []) (buffer 320) .ground gives 10
     ∷ settles (take 95 (fileWith 30000 365 1000 0 0 (15 ∷ drop 1 row14) [])) 320 gives 11
-    ∷ settles (fileWith 30000 365 1000 0 0 (15 ∷ 5 ∷ drop 2 row14) []) 320 gives 12
-    -- a first row whose points fall and a second row of kind 5: all rows are tested for 13 before any for 14
-    ∷ settles (fileWith 30000 365 1000 0 0 (rowWithPoints 0 2 ++ rowOfKind 5) (1 ∷ 1 ∷ 0 ∷ 1 ∷ [])) 320 gives 13
+    ∷ settles (fileWith 30000 365 1000 0 0 (15 ∷ 6 ∷ drop 2 row14) []) 320 gives 12
+    -- a first row whose points fall and a second row of kind 6: all rows are tested for 13 before any for 14
+    ∷ settles (fileWith 30000 365 1000 0 0 (rowWithPoints 0 2 ++ rowOfKind 6) (1 ∷ 1 ∷ 0 ∷ 1 ∷ [])) 320 gives 13
     ∷ settles (fileWith 30000 365 1000 0 0 (rowWithPoints 0 2) (1 ∷ 1 ∷ 0 ∷ 1 ∷ [])) 127 gives 14
     ∷ settling fullPool (demandFile 3 0) (buffer 127) .ground gives 15
     ∷ []

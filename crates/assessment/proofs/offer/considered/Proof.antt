@@ -9,7 +9,7 @@ use Rattle.reading.specs.Interval.{rowWith, rowOf}
 use Rattle.reading.specs.Values.{rowIn}
 use Rattle.reading.proofs.SoundRows.{sound-in, curve-lies, curve-is}
 use Rattle.assessment.specs.Assessment.{fromLastReached, firstKw}
-use Rattle.assessment.proofs.RuleLaws.{mag-le, considered-responsive, considered-other}
+use Rattle.assessment.proofs.RuleLaws.{mag-le, considered-responsive, considered-importer, considered-other}
 use Rattle.assessment.proofs.offer.considered.Statement.{statement}
 use Rattle.assessment.proofs.offer.considered.Tie as tie
 
@@ -37,8 +37,15 @@ returns c =
 returns-2 : tie.Need-returns-2
 unfolding rowOf rowWith rowIn
 returns-2 c =
+    let a = c .before .before .before .args in
+    considered-importer (a .h .«region_wide») (rowOf (a .file .now) (rowIn (a .row))) (c .before .match .keys2)
+
+returns-3 : tie.Need-returns-3
+unfolding rowOf rowWith rowIn
+returns-3 c =
     let a = c .before .before .args in
-    considered-other (a .h .«region_wide») (rowOf (a .file .now) (rowIn (a .row))) (c .match .rest .1)
+    let row = rowOf (a .file .now) (rowIn (a .row)) in
+    considered-other (a .h .«region_wide») row (c .match .rest .0 .1) (c .match .rest .1)
 
 pub considered-spec : {M : Type 1} → statement M
-considered-spec = tie.close (tie.spec curve-requires consumes-requires returns returns-2)
+considered-spec = tie.close (tie.spec curve-requires consumes-requires returns returns-2 returns-3)

@@ -14,8 +14,8 @@ use Rattle.reading.proofs.RowTests.{
   limits-crossed,
   online-above,
   lmp-beyond,
-  other-kind,
-  energy-only,
+  may-commit,
+  may-not-commit,
 }
 use Rattle.reading.proofs.Parts.{beyond-field}
 use Rattle.reading.proofs.scan.row_outside.Statement.{statement}
@@ -119,11 +119,11 @@ passes c =
 
 returns-8 : tie.Need-returns-8
 unfolding rowIn
-returns-8 c = sym (other-kind _ (passes (c .before .before)) (λ e. omega arith))
+returns-8 c = sym (may-commit _ (passes (c .before .before)) (omega arith))
 
 returns-9 : tie.Need-returns-9
 unfolding rowIn
-returns-9 c = sym (energy-only _ (passes (c .before .before .before)) (omega arith))
+returns-9 c = sym (may-not-commit _ (passes (c .before .before .before)) (omega arith))
 
 pub row-outside-spec : {M : Type 1} → statement M
 row-outside-spec =
