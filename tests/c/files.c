@@ -33,8 +33,8 @@ static void write_out(const char *folder, const char *name, const uint8_t *bytes
 
 static void write_row(uint8_t *row, uint32_t id)
 {
-    uint32_t kind = id % 6;
-    uint32_t committed = kind >= NPA_KIND_ENERGY_ONLY ? 0 : 20000 + 100 * id;
+    uint32_t kind = id % 5;
+    uint32_t committed = kind == NPA_KIND_ENERGY_ONLY ? 0 : 20000 + 100 * id;
     npa_put32(row, NPA_ROW_ID, id);
     npa_put32(row, NPA_ROW_KIND, kind);
     npa_put32(row, NPA_ROW_COMMITTED, committed);
