@@ -156,7 +156,8 @@ enum npa_kind {
     NPA_KIND_DEMAND = 1,
     NPA_KIND_EFFICIENCY = 2,
     NPA_KIND_PRD = 3, /* price responsive demand */
-    NPA_KIND_ENERGY_ONLY = 4
+    NPA_KIND_ENERGY_ONLY = 4,
+    NPA_KIND_IMPORTER = 5 /* has figures in a region-wide event only */
 };
 
 enum npa_point_word {
@@ -366,7 +367,8 @@ static inline const char *npa_answer_text(uint32_t answer)
     case NPA_REFUSED_ROW_IDS:
         return "row ids do not rise, or a row has no account";
     case NPA_REFUSED_ROW:
-        return "a word of a row is out of range (4000000 kW, 1000000 cents per MWh), or contradicts another";
+        return "a word of a row is out of range (kind 5, 4000000 kW, 1000000 cents per MWh), or contradicts another, "
+               "as a commitment does kind 4 or 5";
     case NPA_REFUSED_POINTS:
         return "a row has more than 10 points, or they lie outside the table, are out of range or fall";
     case NPA_REFUSED_RESULT_ROOM:

@@ -40,10 +40,10 @@ static inline void write_full_file(uint8_t *file, uint32_t interval, uint32_t sa
     npa_put32(file, NPA_FILE_POINTS_AT, NPA_FILE_HEADER_BYTES + NPA_ROW_BYTES * NPA_ROWS_MOST);
     for (i = 0; i < NPA_ROWS_MOST; i++) {
         uint8_t *row = file + NPA_FILE_HEADER_BYTES + NPA_ROW_BYTES * i;
-        uint32_t kind = (uint32_t)(i + salt) % 5;
+        uint32_t kind = (uint32_t)(i + salt) % 6;
         npa_put32(row, NPA_ROW_ID, (uint32_t)i + 1);
         npa_put32(row, NPA_ROW_KIND, kind);
-        npa_put32(row, NPA_ROW_COMMITTED, kind == NPA_KIND_ENERGY_ONLY ? 0 : 50000 + 7 * (uint32_t)i);
+        npa_put32(row, NPA_ROW_COMMITTED, kind >= NPA_KIND_ENERGY_ONLY ? 0 : 50000 + 7 * (uint32_t)i);
         npa_put32(row, NPA_ROW_OWNED, 60000);
         npa_put32(row, NPA_ROW_METERED, (uint32_t)(31 * i + 977 * salt) % 90000);
         npa_put32(row, NPA_ROW_MAXIMUM, 80000);

@@ -1,6 +1,6 @@
 /*
  * Settles the file of document 01's listing from C and looks at every word of ledger and result; then the same
- * file again, buffers that are too short, and a file to refuse on each other ground.
+ * file again, buffers that are too short, a file to refuse on each other ground, and one with an importer.
  * Fails at the first difference and says what it is; else it says nothing. It is C99 and C++11.
  */
 #include "npa.h"
@@ -125,6 +125,36 @@ static void settle_into(size_t result_len, uint32_t answer)
     free(result);
 }
 
+/* Settles the listing with an importer as its last row, which adds nothing to the ratio. */
+static void settle_importer(uint32_t region_wide)
+{
+    static const uint64_t ROW[2][8] = {{0}, {0, 15001, 0, 0, 0, 15001, 0, 152090}};
+    uint32_t words[FILE_WORDS];
+    uint8_t *ledger = opened(30000, 365);
+    uint8_t *result = buffer(RESULT_LEN);
+    uint8_t *file;
+    size_t i;
+
+    memcpy(words, LISTING, sizeof words);
+    words[NPA_FILE_REGION_WIDE] = region_wide;
+    words[10 + 14 * 3 + NPA_ROW_KIND] = NPA_KIND_IMPORTER;
+    words[10 + 14 * 3 + NPA_ROW_COMMITTED] = 0;
+    file = bytes_of(words, FILE_LEN);
+    hold("answer with an importer, region-wide", region_wide,
+         npa_settle(ledger, LEDGER_LEN, file, FILE_LEN, result, RESULT_LEN), NPA_OK);
+    hold("numerator with an importer, region-wide", region_wide, word(result, NPA_RESULT_NUMERATOR), 120000);
+    hold("charges with an importer, region-wide", region_wide, word(result, NPA_RESULT_CHARGES), 456250);
+    hold("carried with an importer, region-wide", region_wide, word(result, NPA_RESULT_CARRIED), region_wide);
+    hold("rows with an importer, region-wide", region_wide, word(result, NPA_RESULT_ROWS), ROWS);
+    for (i = 0; i < 8; i++) {
+        hold("importer's word", i, word(result, 8 + 8 * 3 + i), ROW[region_wide][i]);
+    }
+    hold("credit of the importer's account", region_wide, word(ledger, 8 + 4 * 3 + 3), ROW[region_wide][7]);
+    free(ledger);
+    free(file);
+    free(result);
+}
+
 /* The listing with one word of its ledger or its file changed. */
 struct refusal {
     uint32_t answer;
@@ -149,7 +179,8 @@ static const struct refusal REFUSALS[] = {
     {NPA_REFUSED_TABLES, 0, 9, 0xffffffff},
     {NPA_REFUSED_ROW_IDS, 0, 10, 12},
     {NPA_REFUSED_ROW_IDS, 0, 52, 15},
-    {NPA_REFUSED_ROW, 0, 11, 5},
+    {NPA_REFUSED_ROW, 0, 11, NPA_KIND_IMPORTER},
+    {NPA_REFUSED_ROW, 0, 11, NPA_KIND_IMPORTER + 1},
     {NPA_REFUSED_ROW, 0, 54, 4000001},
     {NPA_REFUSED_POINTS, 0, 23, 11},
     {NPA_REFUSED_POINTS, 0, 77, 4000001},
@@ -221,5 +252,7 @@ int main(void)
         refuse_word(&REFUSALS[i]);
     }
     refuse_pool();
+    settle_importer(0);
+    settle_importer(1);
     return 0;
 }

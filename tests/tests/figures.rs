@@ -300,6 +300,89 @@ fn one_point_is_a_curve() {
     }
 }
 
+/// The words of an importer's row beside a demand resource that is 90 kW short, and those of the interval.
+fn importer(region_wide: u32, row: Row) -> ([u64; 8], [u64; 8]) {
+    let short = Row {
+        id: 1,
+        kind: 1,
+        committed: 90,
+        ..Row::default()
+    };
+    let rows = vec![
+        short.words(),
+        Row {
+            id: 2,
+            kind: 5,
+            ..row
+        }
+        .words(),
+    ];
+    let mut file = IntervalFile::new(NET_CONE, DAYS, 0, rows, vec![point(0, 0)]);
+    (file.head[4], file.head[5]) = (region_wide, 40);
+    let (ground, rows, interval) = settled(&Ledger::new(NET_CONE, DAYS, &[1, 2]), &file);
+    assert_eq!(ground, 0);
+    (rows[1], interval)
+}
+
+#[test]
+fn an_importer_earns_in_a_region_wide_event() {
+    let row = |metered, adjustment| Row {
+        metered,
+        adjustment,
+        ..Row::default()
+    };
+    let (words, interval) = importer(1, row(500, -100));
+    assert_eq!(words, [0, 400, 0, 0, 0, 400, 0, 2_738]);
+    // The numerator has the imports of the header alone.
+    assert_eq!(interval, [0, 2_738, 2_738, 0, 400, 40, 0, 2]);
+    let carried = [0, 2_738, 0, 2_738, 0, 40, 0, 2];
+    for nothing in [row(0, 0), row(500, -500), row(-500, 499), row(-1, -1)] {
+        assert_eq!(importer(1, nothing), ([0; 8], carried));
+    }
+    let without = [0, 2_738, 0, 2_738, 0, 0, 0, 2];
+    assert_eq!(importer(0, row(500, -100)), ([0; 8], without));
+}
+
+#[test]
+fn other_words_of_an_importer_are_not_used() {
+    let plain = Row {
+        metered: 400,
+        ..Row::default()
+    };
+    let full = Row {
+        owned: 7,
+        planned: 300,
+        forced: 200,
+        maximum: 20,
+        minimum: 10,
+        online: 1,
+        lmp: -5,
+        count: 1,
+        ..plain
+    };
+    for region_wide in [0, 1] {
+        assert_eq!(importer(region_wide, full), importer(region_wide, plain));
+    }
+}
+
+#[test]
+fn kinds_end_at_5_and_an_importer_has_no_commitment() {
+    for (kind, committed, answer) in [(5, 0, 0), (5, 1, 13), (4, 1, 13), (6, 0, 13)] {
+        for region_wide in [0, 1] {
+            let row = Row {
+                id: 1,
+                kind,
+                committed,
+                ..Row::default()
+            };
+            let mut file = IntervalFile::new(NET_CONE, DAYS, 0, vec![row.words()], vec![]);
+            file.head[4] = region_wide;
+            let ledger = Ledger::new(NET_CONE, DAYS, &[1]);
+            assert_eq!(settled(&ledger, &file).0, answer, "kind {kind}");
+        }
+    }
+}
+
 const EXAMPLE_LINES: &str = "\
 1000,11,86667,60000,10000,26667,0,0,0,0
 1000,12,43333,25000,0,0,18333,0,557629,0

@@ -133,11 +133,28 @@ fn features(call: &SettleCall, result: &[u8]) -> Vec<&'static str> {
         let word = |index: usize| at(at(28) as usize + ROW_BYTES * row + 4 * index);
         let figure = |index: usize| long_at(result, 8 + 8 * row + index).unwrap();
         let (kind, count) = (word(1), word(13));
-        let names = ["kind 0", "kind 1", "kind 2", "kind 3", "kind 4"];
+        let names = ["kind 0", "kind 1", "kind 2", "kind 3", "kind 4", "kind 5"];
         note(true, names[kind as usize]);
         let all_zero = (0..8).all(|index| figure(index) == 0);
         note(kind == 3 && !all_zero, "PRD considered");
         note(kind == 3 && all_zero && word(2) > 0, "PRD not considered");
+        let (importer, given) = (
+            kind == 5,
+            i64::from(word(4) as i32) + i64::from(word(5) as i32),
+        );
+        let region_wide = at(16) == 1;
+        note(
+            importer && region_wide && figure(7) > 0,
+            "importer credited",
+        );
+        note(
+            importer && region_wide && given < 0 && all_zero,
+            "importer that exports",
+        );
+        note(
+            importer && !region_wide && given > 0 && all_zero,
+            "importer without region-wide event",
+        );
         note(kind == 0 && figure(3) > 0, "economic");
         note(kind == 0 && figure(3) > 0 && figure(4) > 0, "still short");
         note(kind == 0 && figure(2) > 0 && figure(4) > 0, "outage, short");
@@ -190,7 +207,7 @@ fn accepted_small_cases_show_every_rule() {
             }
         }
     }
-    assert_eq!(counts.len(), 40, "{counts:?}");
+    assert_eq!(counts.len(), 44, "{counts:?}");
     assert!(counts.values().all(|count| *count >= 15), "{counts:?}");
 }
 
@@ -202,6 +219,7 @@ fn events_of_every_size_are_accepted_and_show_the_usual() {
         "kind 2",
         "kind 3",
         "kind 4",
+        "kind 5",
         "ratio inside",
         "imports counted",
         "PRD considered",

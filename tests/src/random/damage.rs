@@ -448,7 +448,7 @@ fn damage_row(rng: &mut Rng, file: &mut IntervalFile) {
     let row = &mut file.rows[index];
     let word = rng.pick(&[1, 2, 3, 4, 5, 6, 7, 8, 9, 9, 10, 11, 11, 14]);
     match word {
-        1 => row[1] = rng.pick(&[3, 4, 5, 255, 256, u32::MAX]),
+        1 => row[1] = rng.pick(&[3, 4, 5, 6, 255, 256, u32::MAX]),
         4 | 5 => {
             let values = [most, most + 1, -most, -most - 1, i32::MIN, i32::MAX];
             row[word] = rng.pick(&values) as u32;
@@ -459,7 +459,7 @@ fn damage_row(rng: &mut Rng, file: &mut IntervalFile) {
             let values = [price, price + 1, -price, -price - 1, i32::MIN, i32::MAX];
             row[11] = rng.pick(&values) as u32;
         }
-        14 => (row[1], row[2]) = (4, rng.below(2) as u32),
+        14 => (row[1], row[2]) = (rng.pick(&[4, 5]), rng.below(2) as u32),
         _ => {
             row[word] = rng.pick(&[KW_MOST, KW_MOST + 1, 1 << 31, u32::MAX]);
             if word == 9 && rng.one_in(2) {

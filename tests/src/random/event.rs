@@ -25,19 +25,19 @@ pub fn event_file(rng: &mut Rng, interval: u32, ids: &[u32], row_points: usize) 
 
 /// A plant and what it did, without price and points.
 fn plant(rng: &mut Rng, id: u32) -> Row {
-    let kind = rng.pick(&[0, 0, 0, 0, 0, 0, 1, 2, 3, 4]);
+    let kind = rng.pick(&[0, 0, 0, 0, 0, 0, 1, 2, 3, 4, 5]);
     let owned = match kind {
         0 => rng.between(5_000, 900_000),
         4 => rng.between(1_000, 100_000),
         _ => rng.between(500, 60_000),
     } as u32;
     let committed = match kind {
-        4 => 0,
+        4 | 5 => 0,
         _ => percent(rng, owned, 85, 100),
     };
     let given = match kind {
         0 => percent(rng, committed, 80, 110),
-        4 => percent(rng, owned, 20, 100),
+        4 | 5 => percent(rng, owned, 20, 100),
         _ => percent(rng, committed, 60, 140),
     };
     let mut row = Row {

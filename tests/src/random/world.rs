@@ -171,14 +171,15 @@ impl World {
         let count = if rng.one_in(2) { most } else { rng.up_to(most) };
         let ids = some_of(rng, &self.ids, count);
         let kinds: &[u32] = rng.pick(&[
-            &[0, 1, 2, 3, 4][..],
-            &[0, 1, 2, 3, 4],
+            &[0, 1, 2, 3, 4, 5][..],
+            &[0, 1, 2, 3, 4, 5],
             &[0, 0, 1, 2, 3],
             &[0, 0, 0, 1, 4],
-            &[0, 0, 0, 2],
+            &[0, 0, 0, 2, 5],
             &[0, 4],
             &[1, 2, 3, 4],
             &[0, 3],
+            &[1, 5],
         ]);
         let (points, curves) = self.points(rng, size, count);
         let rows = ids
@@ -204,7 +205,7 @@ impl World {
             let first = points.len();
             points.extend(self.curve(rng, row_points));
             let curve = (first, row_points);
-            let mut row = self.row(rng, *id, &[0, 0, 0, 1, 2, 3, 4], &points, &[curve]);
+            let mut row = self.row(rng, *id, &[0, 0, 0, 1, 2, 3, 4, 5], &points, &[curve]);
             (row.first, row.count) = (first as u32, row_points as u32);
             rows.push(row.words());
         }
@@ -299,7 +300,7 @@ impl World {
             online: u32::from(!rng.one_in(3)),
             ..Row::default()
         };
-        row.committed = if kind == 4 { 0 } else { self.kw(rng) };
+        row.committed = if kind >= 4 { 0 } else { self.kw(rng) };
         row.metered = self.metered(rng, row.committed);
         if rng.one_in(4) {
             row.adjustment = self.signed_kw(rng);

@@ -2,10 +2,10 @@
 
 use super::curve::{considered, scheduled};
 use super::file::{points_of, Head, Point, Row};
-use super::file::{DEMAND, EFFICIENCY, ENERGY_ONLY, GENERATION, PRD};
+use super::file::{DEMAND, EFFICIENCY, ENERGY_ONLY, GENERATION, IMPORTER, PRD};
 use super::Whole;
 
-/// The figures of one row before money; all 0 for a row not considered.
+/// The figures of one row before money; all 0 for a row that is left out.
 #[derive(Clone, Default)]
 pub struct Figures {
     pub expected: Whole,
@@ -35,7 +35,7 @@ fn actual(row: &Row) -> Whole {
     (row.metered + row.adjustment).max(0)
 }
 
-/// The kW expected of kinds 1 to 4, which no ratio touches.
+/// The kW expected of kinds 1 to 5, which no ratio touches.
 fn expected_fixed(row: &Row) -> Whole {
     match row.kind {
         DEMAND | EFFICIENCY | PRD => row.committed,
@@ -125,16 +125,25 @@ fn shortfall(expected: Whole, actual: Whole, outage: Whole, economic: Whole) -> 
     (expected - actual - outage - economic).max(0)
 }
 
-/// All kW figures of one row.
-fn figures(row: &Row, points: &[Point], numerator: Whole, denominator: Whole) -> Figures {
-    if !considered(row, points) {
-        return Figures::default();
+/// A PRD row that is not considered has no figures, and an importer none but in a region-wide event.
+fn is_left_out(head: &Head, row: &Row, points: &[Point]) -> bool {
+    match row.kind {
+        IMPORTER => head.region_wide == 0,
+        _ => !considered(row, points),
     }
-    let expected = if row.kind == GENERATION {
+}
+
+/// The kW expected of a row, by the ratio if it is a committed generator's.
+fn expected(row: &Row, numerator: Whole, denominator: Whole) -> Whole {
+    if row.kind == GENERATION {
         by_ratio(row.committed, numerator, denominator)
     } else {
         expected_fixed(row)
-    };
+    }
+}
+
+/// All kW figures of one row of which this much is expected.
+fn figures(row: &Row, points: &[Point], expected: Whole) -> Figures {
     let actual = actual(row);
     let outage = outage(row);
     let economic = economic(row, points, expected);
@@ -162,7 +171,10 @@ pub fn assess(head: &Head, rows: &[Row], table: &[Point]) -> Assessment {
         denominator,
         rows: rows
             .iter()
-            .map(|row| figures(row, points_of(row, table), numerator, denominator))
+            .map(|row| match points_of(row, table) {
+                points if is_left_out(head, row, points) => Figures::default(),
+                points => figures(row, points, expected(row, numerator, denominator)),
+            })
             .collect(),
     }
 }

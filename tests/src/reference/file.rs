@@ -22,6 +22,7 @@ pub const DEMAND: Whole = 1;
 pub const EFFICIENCY: Whole = 2;
 pub const PRD: Whole = 3;
 pub const ENERGY_ONLY: Whole = 4;
+pub const IMPORTER: Whole = 5;
 
 pub struct Head {
     pub terms: Terms,
@@ -163,14 +164,19 @@ pub fn row_holds(row: &Row) -> bool {
         row.maximum,
         row.minimum,
     ];
-    row.kind <= ENERGY_ONLY
+    row.kind <= IMPORTER
         && kilowatts.iter().all(|kw| *kw <= KW_MOST)
         && (-KW_MOST..=KW_MOST).contains(&row.metered)
         && (-KW_MOST..=KW_MOST).contains(&row.adjustment)
         && row.minimum <= row.maximum
         && row.online <= 1
         && price_holds(row.lmp)
-        && !(row.kind == ENERGY_ONLY && row.committed != 0)
+        && (row.committed == 0 || !is_uncommitted(row))
+}
+
+/// Energy-only plants and importers have no commitment.
+fn is_uncommitted(row: &Row) -> bool {
+    row.kind == ENERGY_ONLY || row.kind == IMPORTER
 }
 
 /// A price or an LMP is in range.

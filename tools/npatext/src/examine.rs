@@ -1,6 +1,6 @@
 //! Every fault of an opening block or an interval file, in checking order.
 
-use crate::names::{Sign, KINDS, ROW_WORDS};
+use crate::names::{Sign, KINDS, ROW_WORDS, UNCOMMITTED};
 use npa_tests::layout::{
     word_at, BLOCK_MOST, DAY_INTERVALS, FILE_MOST, HEADER_BYTES, IDS_MOST, IMPORTS_MOST, KW_MOST,
     NET_CONE_MOST, OPENING_BYTES, POINTS_MOST, POINT_BYTES, PRICE_MOST, ROWS_MOST, ROW_BYTES,
@@ -319,8 +319,9 @@ fn row_faults(row: &[u32; 14], place: &str, faults: &mut Faults) {
         let what = format!("minimum {minimum} above maximum {maximum}");
         faults.add(13, place, what);
     }
-    if kind == KINDS.len() as i64 - 1 && committed > 0 {
-        let what = format!("committed {committed} above 0, with kind {kind} (energy_only)");
+    if UNCOMMITTED.contains(&row[1]) && committed > 0 {
+        let name = KINDS[row[1] as usize];
+        let what = format!("committed {committed} above 0, with kind {kind} ({name})");
         faults.add(13, place, what);
     }
 }

@@ -23,5 +23,15 @@ pub const ROW_WORDS: [(usize, &str, Sign); 10] = [
     (11, "lmp", Signed),
 ];
 
-/// Kinds 0 to 4.
-pub const KINDS: [&str; 5] = ["generation", "demand", "efficiency", "prd", "energy_only"];
+/// Kinds 0 to 5.
+pub const KINDS: [&str; 6] = [
+    "generation",
+    "demand",
+    "efficiency",
+    "prd",
+    "energy_only",
+    "importer",
+];
+
+/// The kinds that have no commitment.
+pub const UNCOMMITTED: [u32; 2] = [4, 5];

@@ -89,7 +89,7 @@ fn what_was_refused_or_cut() {
         .map(|(ground, _)| ground)
         .collect();
     assert_eq!(grounds.len(), 9, "{grounds:?}");
-    assert_eq!(text.lines().count(), 1 + 49 + 1);
+    assert_eq!(text.lines().count(), 1 + 50 + 1);
 }
 
 /// A listing that is not the stream's: the first line that differs, with what it should be.
@@ -277,7 +277,7 @@ fn refusals_have_their_table() {
     folder.sample("refusals");
     folder
         .run(&["tables", "refusals.stream", "refusals.csv", "tables"])
-        .writes("tables/rows.csv: 1030 rows\ntables/pools.csv: 5 pools\ntables/refusals.csv: 49 refusals\n");
+        .writes("tables/rows.csv: 1030 rows\ntables/pools.csv: 5 pools\ntables/refusals.csv: 50 refusals\n");
     table(&folder, "rows", ROWS);
     table(&folder, "pools", POOLS);
     let refusals: Vec<String> = table(&folder, "refusals", REFUSALS)
@@ -288,7 +288,7 @@ fn refusals_have_their_table() {
         "2,,,,,refused,7,the interval file is too short or too long or of another format",
         "7,105408,,,,refused,9,the interval is not in the year or region-wide or imports are out of range",
         "11,10,6,1,00:50,refused,10,the interval is before the earliest that is still accepted",
-        "54,,,,,refused,7,a length of 49153: nothing after it is listed",
+        "55,,,,,refused,7,a length of 49153: nothing after it is listed",
     ] {
         assert!(refusals.contains(&line.to_string()), "{line}");
     }

@@ -46,7 +46,7 @@ fn faults_name_line_and_field() {
         ("row 1 2 kind=0", "line 4: `2` is too much for `row`".to_string()),
         (
             "row 1 kind=wind",
-            "line 4, field kind: `wind` is none of generation, demand, efficiency, prd, energy_only, \
+            "line 4, field kind: `wind` is none of generation, demand, efficiency, prd, energy_only, importer, \
              and no number of 32 bits"
                 .to_string(),
         ),

@@ -65,6 +65,7 @@ fn samples_are_complete() {
         "afternoon",
         "cut",
         "document",
+        "importers",
         "opening",
         "opening_1",
         "opening_2",
@@ -145,6 +146,27 @@ interval,id,expected,actual,outage,economic,shortfall,bonus,charge,credit
 pool,1000,866673,557629,557628,1
 ";
     assert_eq!(text("document", "csv"), printed);
+}
+
+/// Worked by hand: 8000 of 10000 kW are expected of plant 11 with the imports, 5000 without them.
+#[test]
+fn importers_earn_in_a_region_wide_event() {
+    let printed = "\
+interval,id,expected,actual,outage,economic,shortfall,bonus,charge,credit
+0,11,8000,5000,0,0,3000,0,91250,0
+0,12,0,3000,0,0,0,3000,0,65700
+0,13,0,2000,0,0,0,2000,0,43800
+0,14,0,0,0,0,0,0,0,0
+0,15,1000,400,0,0,600,0,18250,0
+pool,0,800000,109500,109500,0
+1,11,5000,5000,0,0,0,0,0,0
+1,12,0,0,0,0,0,0,0,0
+1,13,0,0,0,0,0,0,0,0
+1,14,0,0,0,0,0,0,0,0
+1,15,1000,400,0,0,600,0,18250,0
+pool,1,500000,18250,0,18250
+";
+    assert_eq!(text("importers", "csv"), printed);
 }
 
 /// The numbers of the lines that begin with a word, or with a number if there is none.

@@ -110,7 +110,7 @@ fn openings_in_words() {
 #[test]
 fn intervals_in_words() {
     for (text, faults) in [
-        ("row 1 kind=5", &["row 1 (id 1): kind 5 above 4, ground 13"][..]),
+        ("row 1 kind=6", &["row 1 (id 1): kind 6 above 5, ground 13"][..]),
         (
             "row 1 kind=0 committed=4000001 owned=4000001 planned=4000001 forced=4000001 maximum=4000002 minimum=4000001",
             &[
@@ -136,10 +136,12 @@ fn intervals_in_words() {
             ],
         ),
         (
-            "row 1 kind=demand maximum=5 minimum=6\nrow 2 kind=energy_only committed=1",
+            "row 1 kind=demand maximum=5 minimum=6\n\
+             row 2 kind=energy_only committed=1\nrow 3 kind=importer committed=7",
             &[
                 "row 1 (id 1): minimum 6 above maximum 5, ground 13",
                 "row 2 (id 2): committed 1 above 0, with kind 4 (energy_only), ground 13",
+                "row 3 (id 3): committed 7 above 0, with kind 5 (importer), ground 13",
             ],
         ),
         (
@@ -247,7 +249,7 @@ fn all_faults_of_a_block() {
     let text = format!(
         "{OPENING}\ninterval 9\nrow 1 kind=demand\n\
          interval 8 net_cone=2 region_wide=2 points_at=39\n\
-         row 600 kind=5 points=11\nrow 500 kind=demand lmp=1000001"
+         row 600 kind=6 points=11\nrow 500 kind=demand lmp=1000001"
     );
     let place = "block 2 (interval 8)";
     assert_eq!(
@@ -259,7 +261,7 @@ fn all_faults_of_a_block() {
             format!("{place}: points_at 39 below 40, ground 11"),
             format!("{place}, row 1 (id 600): id 600 not in the opening, ground 12"),
             format!("{place}, row 2 (id 500): id 500 not above 600, the id of row 1, ground 12"),
-            format!("{place}, row 1 (id 600): kind 5 above 4, ground 13"),
+            format!("{place}, row 1 (id 600): kind 6 above 5, ground 13"),
             format!("{place}, row 2 (id 500): lmp 1000001 above 1000000, ground 13"),
             format!("{place}, row 1 (id 600): points 11 above 10, ground 14"),
             format!("{place}, row 1 (id 600): 11 points from first 0 end at 11, beyond the 0 of the table, ground 14"),
@@ -328,14 +330,14 @@ fn cuts_in_words() {
 #[test]
 fn blocks_after_a_refused_opening() {
     let text = "opening net_cone=1 days=364 ids=1\ninterval 0\nrow 1 kind=demand\n\
-                interval 1 net_cone=5\nrow 1 kind=5\nlength 49153\nraw 00";
+                interval 1 net_cone=5\nrow 1 kind=6\nlength 49153\nraw 00";
     assert_eq!(
         said_of(text),
         [
             "block 0: days 364, neither 365 nor 366, ground 2",
             "block 0 is refused, so nothing after it is listed; what follows is examined alone, without grounds 8, \
              10 and 16 and without the ids of an opening",
-            "block 2 (interval 1), row 1 (id 1): kind 5 above 4, ground 13",
+            "block 2 (interval 1), row 1 (id 1): kind 6 above 5, ground 13",
             "block 3: length 49153 above 49152 (1 byte after it not read), ground 7",
         ]
     );
@@ -365,7 +367,7 @@ fn faults_are_counted() {
         .run(&["why", "document.stream"])
         .writes("no faults in 2 blocks\n");
     for (sample, count) in [
-        ("refusals", "54 faults in 49 of 55 blocks"),
+        ("refusals", "55 faults in 50 of 56 blocks"),
         ("afternoon", "no faults in 25 blocks"),
         ("cut", "1 fault in 1 of 3 blocks"),
     ] {

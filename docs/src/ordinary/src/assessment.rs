@@ -1,8 +1,8 @@
 //! The rules of one interval, in kW.
 
-use crate::file::{Header, Point, Row, DEMAND, EFFICIENCY, ENERGY_ONLY, GENERATION, PRD};
+use crate::file::{Header, Point, Row, DEMAND, EFFICIENCY, ENERGY_ONLY, GENERATION, IMPORTER, PRD};
 
-/// The kW figures of a row; a row that is not considered has zeros.
+/// The kW figures of a row; a row that does not count has zeros.
 #[derive(Default)]
 pub struct Figures {
     pub expected: u64,
@@ -54,12 +54,13 @@ impl Ratio {
 }
 
 /// All kW figures of a row.
-pub fn figures(row: &Row, curve: &[Point], ratio: &Ratio) -> Figures {
+pub fn figures(header: &Header, row: &Row, curve: &[Point], ratio: &Ratio) -> Figures {
     match row.kind {
         GENERATION => generator(row, curve, ratio.portion(row.committed)),
         ENERGY_ONLY => generator(row, curve, 0),
         DEMAND | EFFICIENCY => reduction(row),
-        _ if considered(row, curve) => reduction(row),
+        PRD if considered(row, curve) => reduction(row),
+        IMPORTER if header.region_wide == 1 => reduction(row),
         _ => Figures::default(),
     }
 }
@@ -88,7 +89,7 @@ fn generator(row: &Row, curve: &[Point], expected: u64) -> Figures {
     }
 }
 
-/// Kinds 1 to 3.
+/// Kinds 1 to 3, and 5 with a commitment of 0.
 fn reduction(row: &Row) -> Figures {
     let expected = row.committed;
     let actual = actual(row);

@@ -21,6 +21,7 @@ pub const DEMAND: u32 = 1;
 pub const EFFICIENCY: u32 = 2;
 pub const PRD: u32 = 3;
 pub const ENERGY_ONLY: u32 = 4;
+pub const IMPORTER: u32 = 5;
 
 pub struct Header {
     pub interval: u64,
@@ -145,13 +146,13 @@ impl Row {
             self.maximum,
             self.minimum,
         ];
-        self.kind <= ENERGY_ONLY
+        self.kind <= IMPORTER
             && others.iter().all(|kw| *kw <= KW_MOST)
             && metered.iter().all(|kw| kw.unsigned_abs() <= KW_MOST)
             && self.minimum <= self.maximum
             && self.online <= 1
             && self.lmp.abs() <= PRICE_MOST
-            && (self.kind != ENERGY_ONLY || self.committed == 0)
+            && (self.kind < ENERGY_ONLY || self.committed == 0)
     }
 
     /// The row's points, if they are few, in the table and in range, and do not fall.

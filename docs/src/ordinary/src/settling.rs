@@ -38,7 +38,7 @@ fn try_settle(ledger_bytes: &mut [u8], file: &[u8], result: &mut [u8]) -> Result
     let figures: Vec<Figures> = rows
         .iter()
         .zip(&curves)
-        .map(|(row, curve)| figures(row, curve, &ratio))
+        .map(|(row, curve)| figures(&header, row, curve, &ratio))
         .collect();
     let charges = charge(&mut ledger, &places, &rows, &figures);
     let charged: u64 = charges.iter().sum();

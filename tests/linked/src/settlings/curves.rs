@@ -116,13 +116,13 @@ fn lmps(points: &[(i32, u32)]) -> Vec<i32> {
 fn all_rows(points: &[(i32, u32)], range: (u32, u32)) -> SettleCase {
     let mut rows = Vec::new();
     for lmp in lmps(points) {
-        for kind in 0..=4 {
+        for kind in 0..=5 {
             for online in 0..=1 {
                 let number = rows.len() as u32;
                 rows.push(Row {
                     id: 7 * (number + 1),
                     kind,
-                    committed: if kind == 4 { 0 } else { 40 * (number % 7) },
+                    committed: if kind >= 4 { 0 } else { 40 * (number % 7) },
                     owned: [KW_MOST, 150, 0][number as usize % 3],
                     metered: [KW_MOST as i32, 60, 0, 130][number as usize % 4],
                     planned: 10 * (number % 5 / 4),

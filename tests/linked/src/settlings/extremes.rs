@@ -8,7 +8,7 @@ use npa_tests::random::{rising, SettleCase};
 pub fn cases() -> Vec<SettleCase> {
     let mut cases = Vec::new();
     for rows in [1, 2, 3, 511, 512] {
-        for kind in 0..=4 {
+        for kind in 0..=5 {
             for committed in [0, 1, KW_MOST] {
                 if kind < 4 || committed == 0 {
                     cases.extend(given(rows, largest(kind, committed)));

@@ -13,6 +13,7 @@ pub fn cases() -> Vec<SettleCase> {
     cases.extend(signed_words());
     cases.extend(ranges());
     cases.extend(kinds());
+    cases.extend(importers());
     cases.extend(switches());
     cases.extend(point_counts());
     cases.extend(first_points());
@@ -136,18 +137,54 @@ fn ranges() -> Vec<SettleCase> {
     cases
 }
 
-/// Every kind, with no commitment, one kW and more.
+/// Every kind, with no commitment, one kW and more, in an event that is region-wide or not.
 fn kinds() -> Vec<SettleCase> {
-    let far = [255, 256, 257, 260, TOP, TOP + 1, u32::MAX];
+    let far = [255, 256, 257, 260, 261, TOP, TOP + 1, TOP + 5, u32::MAX];
     let mut cases = Vec::new();
     for row in 0..4 {
-        for kind in (0..=6).chain(far) {
-            for committed in [0, 1, 50_000] {
+        for kind in (0..=7).chain(far) {
+            for (committed, region_wide) in [0, 1, 50_000].map(|kw| [(kw, 0), (kw, 1)]).concat() {
                 cases.push(with(&listing(), |case| {
+                    case.file.head[4] = region_wide;
                     case.file.rows[row][1] = kind;
                     case.file.rows[row][2] = committed;
                 }));
             }
+        }
+    }
+    cases
+}
+
+/// The listing's last row as an importer's: each of its words at its bounds, and metered and adjustment of either sign,
+/// in an event that is region-wide or not.
+fn importers() -> Vec<SettleCase> {
+    let kw = KW_MOST as i32;
+    let importer = |region_wide| {
+        with(&listing(), |case| {
+            case.file.head[4] = region_wide;
+            (case.file.rows[3][1], case.file.rows[3][2]) = (5, 0);
+        })
+    };
+    let mut cases = Vec::new();
+    for case in [importer(0), importer(1)] {
+        for metered in [-kw, -1, 0, 1, kw] {
+            for adjustment in [-kw, -1, 0, 1, kw] {
+                cases.push(with(&case, |case| {
+                    case.file.rows[3][4] = metered as u32;
+                    case.file.rows[3][5] = adjustment as u32;
+                }));
+            }
+        }
+        for (word, values) in [
+            (3, [KW_MOST, KW_MOST + 1]),
+            (6, [KW_MOST, KW_MOST + 1]),
+            (7, [KW_MOST, KW_MOST + 1]),
+            (8, [KW_MOST, KW_MOST + 1]),
+            (9, [0, 1]),
+            (10, [1, 2]),
+            (11, [PRICE_MOST as u32, PRICE_MOST as u32 + 1]),
+        ] {
+            cases.extend(values.map(|value| with(&case, |case| case.file.rows[3][word] = value)));
         }
     }
     cases
@@ -266,6 +303,7 @@ mod tests {
             (signed_words(), 13),
             (ranges(), 13),
             (kinds(), 13),
+            (importers(), 13),
             (switches(), 13),
             (point_counts(), 14),
             (first_points(), 14),
