@@ -30,9 +30,9 @@
 #include <stdint.h>
 
 /* The version of header and archive. */
-#define NPA_VERSION "1.5.0"
+#define NPA_VERSION "1.6.0"
 #define NPA_VERSION_MAJOR 1
-#define NPA_VERSION_MINOR 5
+#define NPA_VERSION_MINOR 6
 #define NPA_VERSION_PATCH 0
 
 /*
