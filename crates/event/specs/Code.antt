@@ -24,7 +24,8 @@ pub record FileDue (files : List ℕ) (at : ℕ) (p : PlaceValue) : Type 0 where
   pub within : p .to ≤ length files
 
 -- a turn as code takes it: a file settled into the result from where it is filled to, and where the results then end
-pub record TurnTaken (ledger file result : List ℕ) (filled : ℕ) (ledger-after result-after : List ℕ) (t : TurnValue) : Type 0 where
+pub record TurnTaken (ledger file result : List ℕ) (filled : ℕ) (ledger-after result-after : List ℕ) (t : TurnValue)
+    : Type 0 where
   pub ground : t .ground ≡ settling ledger file (drop filled result) .ground
   pub leaves : ledger-after ≡ settling ledger file (drop filled result) .ledger
   pub puts : result-after ≡ take filled result ++ settling ledger file (drop filled result) .result

@@ -38,9 +38,15 @@ noFile ground ledger result = record { ground = ground; ledger = ledger; result 
 
 -- a file is settled, whose result stands before what the later files leave
 unfoldable pub oneFile : List ℕ → Settled → Settled
-oneFile front later = record { ground = later .ground; ledger = later .ledger; result = front ++ later .result; files = later .files + 1 }
+oneFile front later = record {
+  ground = later .ground;
+  ledger = later .ledger;
+  result = front ++ later .result;
+  files = later .files + 1;
+}
 
--- what comes next: a file is settled into what is left of the result buffer, and the later files into what it leaves of that
+-- what comes next: a file is settled into what is left of the result buffer, and the later files into what it leaves
+-- of that
 unfoldable pub turn : (List ℕ → List ℕ → List ℕ → Settled) → List ℕ → List ℕ → Next → Settled
 turn later ledger result (Next.stop End.ended) = noFile 0 ledger result
 turn later ledger result (Next.stop End.cut) = noFile lengthRunsPast ledger result
@@ -48,7 +54,9 @@ turn later ledger result (Next.stop End.overLong) = noFile lengthRunsPast ledger
 turn later ledger result (Next.block file rest) =
     let a = settling ledger file result in
     let n = resultBytes (headerOf file .rowCount) in
-    cond (eqb (a .ground) 0) (oneFile (take n (a .result)) (later (a .ledger) rest (drop n (a .result)))) (noFile (a .ground) (a .ledger) (a .result))
+    cond (eqb (a .ground) 0)
+    (oneFile (take n (a .result)) (later (a .ledger) rest (drop n (a .result))))
+    (noFile (a .ground) (a .ledger) (a .result))
 
 -- files in order, with a budget of turns
 unfoldable pub settledFiles : ℕ → List ℕ → List ℕ → List ℕ → Settled

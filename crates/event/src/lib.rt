@@ -84,7 +84,8 @@ fn settle_next(ledger: &mut [u8], file: &[u8], result: &mut [u8], filled: usize)
 // Settles files in order, up to the first that is refused; results follow each other.
 fn settle_files(ledger: &mut [u8], files: &[u8], result: &mut [u8]) -> Settled
     ensures { λ r. ⌜
-        FilesSettled (settledFiles (length (now (files .entry)) + 1) (now (ledger .entry)) (now (files .entry)) (now (result .entry)))
+        FilesSettled
+        (settledFiles (length (now (files .entry)) + 1) (now (ledger .entry)) (now (files .entry)) (now (result .entry)))
         (now (ledger .exit)) (now (result .exit)) r
         ⌝ }
 {

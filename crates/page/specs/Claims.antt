@@ -9,7 +9,17 @@ use Rattle.words.specs.Words.{Bytes}
 use Rattle.stream.specs.Claims.{readingSteps}
 use Rattle.listing.specs.Lines.{heading, RowLine, YearLine, Line, bytesOfLines}
 use Rattle.listing.specs.Npalist.{listed}
-use Rattle.page.specs.Page.{idWordBytes, summed, opened, onRoster, openingOf, linesAbove, pageYear, pageLines, npapage}
+use Rattle.page.specs.Page.{
+  idWordBytes,
+  summed,
+  opened,
+  onRoster,
+  openingOf,
+  linesAbove,
+  pageYear,
+  pageLines,
+  npapage,
+}
 use Rattle.page.specs.Steps.{pageStart, idOutcome, pageSteps}
 
 -- the heading, the step on the id word, and then steps that each read a length and the bytes due after it
@@ -21,7 +31,8 @@ readPage budget input =
 
 -- They are what npapage prints, for every input of fewer bytes than there are steps
 unfoldable pub StepsPrintThePage : Type 0
-StepsPrintThePage = (budget : ℕ) (input : List ℕ) → length input < budget → readPage budget input ≡ npapage input
+StepsPrintThePage =
+    (budget : ℕ) (input : List ℕ) → length input < budget → readPage budget input ≡ npapage input
 
 -- the row lines among some lines
 unfoldable pub rowsAmong : List Line → List RowLine
@@ -51,4 +62,6 @@ pub record PageHolds (id : ℕ) (stream : List ℕ) : Type 0 where
 
 -- A page has its plant's lines and their sums, for every such stream and plant
 unfoldable pub PageOfAPlant : Type 0
-PageOfAPlant = (id : ℕ) (stream : List ℕ) → Bytes stream → opened stream ≡ true → onRoster id (openingOf stream) ≡ true → PageHolds id stream
+PageOfAPlant =
+    (id : ℕ) (stream : List ℕ) → Bytes stream → opened stream ≡ true → onRoster id (openingOf stream) ≡ true
+    → PageHolds id stream

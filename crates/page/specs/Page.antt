@@ -46,12 +46,20 @@ figureOn figure (Line.year y) = 0
 unfoldable pub summed : (RowLine → ℕ) → List Line → ℕ
 summed figure = sum (figureOn figure)
 
--- a plant's year: shortfall and bonus summed, and what a ledger has it charged and credited, with the limit of its largest commitment
+-- a plant's year: shortfall and bonus summed, and what a ledger has it charged and credited, with the limit of its
+-- largest commitment
 unfoldable pub yearOf : ℕ → ℕ → ℕ → List ℕ → YearLine
 yearOf id shortfall bonus ledger =
     let l = ledgerOf ledger in
     let a = accountOf id (l .accounts) in
-    record { id = id; shortfall = shortfall; bonus = bonus; charged = a .charged; credited = a .credited; limit = limit (l .terms) (a .largest) }
+    record {
+      id = id;
+      shortfall = shortfall;
+      bonus = bonus;
+      charged = a .charged;
+      credited = a .credited;
+      limit = limit (l .terms) (a .largest);
+    }
 
 -- whether an opening comes first in a stream, and is accepted
 unfoldable pub opened : List ℕ → Bool
@@ -83,9 +91,11 @@ pageLines id stream =
     (cond (onRoster id (openingOf stream)) page (Line.refused 0 outsideRoster ∷ []))
     (linesAbove id stream)
 
--- npapage: the heading in any case, then the page of the plant whose id comes first in standard input; without a whole id word a cut in block 0
+-- npapage: the heading in any case, then the page of the plant whose id comes first in standard input; without a
+-- whole id word a cut in block 0
 unfoldable pub npapage : List ℕ → List ℕ
 npapage input =
     heading
     ++ bytesOfLines
-    (cond (ltb (length input) idWordBytes) (Line.cut 0 ∷ []) (pageLines (number idWordBytes input) (drop idWordBytes input)))
+    (cond (ltb (length input) idWordBytes) (Line.cut 0 ∷ [])
+    (pageLines (number idWordBytes input) (drop idWordBytes input)))

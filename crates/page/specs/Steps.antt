@@ -38,7 +38,11 @@ pageOutcome id s o =
     let lines = chosen id (o .printed) in
     record {
       printed = lines;
-      state = record { ledger = o .state; shortfall = s .shortfall + summed (λ r. r .shortfall) lines; bonus = s .bonus + summed (λ r. r .bonus) lines };
+      state = record {
+        ledger = o .state;
+        shortfall = s .shortfall + summed (λ r. r .shortfall) lines;
+        bonus = s .bonus + summed (λ r. r .bonus) lines;
+      };
       on = o .on;
     }
 

@@ -65,7 +65,9 @@ pub struct PageStep {
 pub fn page_id(word: &[u8], out: &mut [u8]) -> IdStep
     requires { ⌜ length (now word) ≤ idWordBytes ⌝ }
     requires { ⌜ stepRoom ≤ length (now out) ⌝ }
-    ensures { λ r. ⌜ StepTaken (inBytes (idOutcome (now (word .entry)))) (r .id) (now (out .entry)) (now (out .exit)) (r .taken) ⌝ }
+    ensures { λ r. ⌜
+        StepTaken (inBytes (idOutcome (now (word .entry)))) (r .id) (now (out .entry)) (now (out .exit)) (r .taken)
+        ⌝ }
 {
     if word.len() < ID_WORD_BYTES {
         let end = put_cut(out, 0, 0);
@@ -152,7 +154,8 @@ fn page_settled(
     requires { ⌜ stepRoom ≤ length (now out) ⌝ }
     ensures { λ r. ⌜
         StepTaken
-        (inBytes (pageOutcome (page .id) (stateIn (now (ledger .entry)) page) (intervalListed number (now (ledger .entry)) (now (file .entry)))))
+        (inBytes (pageOutcome (page .id) (stateIn (now (ledger .entry)) page)
+        (intervalListed number (now (ledger .entry)) (now (file .entry)))))
         (stateIn (now (ledger .exit)) (r .page)) (now (out .entry)) (now (out .exit)) (r .taken)
         ⌝ }
     ensures { λ r. ⌜ r .page .id ≡ page .id ⌝ }
@@ -188,7 +191,8 @@ fn page_interval(
     requires { ⌜ stepRoom ≤ length (now out) ⌝ }
     ensures { λ r. ⌜
         StepTaken
-        (inBytes (pageOutcome (page .id) (stateIn (now (ledger .entry)) page) (intervalListed number (now (ledger .entry)) (now (file .entry)))))
+        (inBytes (pageOutcome (page .id) (stateIn (now (ledger .entry)) page)
+        (intervalListed number (now (ledger .entry)) (now (file .entry)))))
         (stateIn (now (ledger .exit)) (r .page)) (now (out .entry)) (now (out .exit)) (r .taken)
         ⌝ }
     ensures { λ r. ⌜ r .page .id ≡ page .id ⌝ }
@@ -203,8 +207,12 @@ fn page_interval(
 fn page_stop(number: u64, found: Found, page: Page, ledger: &[u8], out: &mut [u8]) -> usize
     requires { ⌜ notALedger (now ledger) ≡ false ⌝ }
     requires { ⌜ stepRoom ≤ length (now out) ⌝ }
-    ensures { λ _. ⌜ now (out .exit) ≡ placedAt 0 (bytesOfLines (stopLines number (foundAs found []) ++ yearLines (page .id) (stateIn (now (ledger .entry)) page))) (now (out .entry)) ⌝ }
-    ensures { λ r. ⌜ r ≡ length (bytesOfLines (stopLines number (foundAs found []) ++ yearLines (page .id) (stateIn (now (ledger .entry)) page))) ⌝ }
+    ensures { λ _.
+        let lines = stopLines number (foundAs found []) ++ yearLines (page .id) (stateIn (now (ledger .entry)) page) in
+        ⌜ now (out .exit) ≡ placedAt 0 (bytesOfLines lines) (now (out .entry)) ⌝ }
+    ensures { λ r.
+        let lines = stopLines number (foundAs found []) ++ yearLines (page .id) (stateIn (now (ledger .entry)) page) in
+        ⌜ r ≡ length (bytesOfLines lines) ⌝ }
     ensures { λ r. ⌜ r ≤ stepRoom ⌝ }
 {
     let end = put_stop(number, found, out);
@@ -229,7 +237,8 @@ pub fn page_next(
     requires { ⌜ stepRoom ≤ length (now out) ⌝ }
     ensures { λ r. ⌜
         StepTaken
-        (inBytes (nextPaged (page .id) number (stateIn (now (ledger .entry)) page) (now (head .entry) ++ now (block .entry))))
+        (inBytes (nextPaged (page .id) number (stateIn (now (ledger .entry)) page)
+        (now (head .entry) ++ now (block .entry))))
         (stateIn (now (ledger .exit)) (r .page)) (now (out .entry)) (now (out .exit)) (r .taken)
         ⌝ }
     ensures { λ r. ⌜ r .page .id ≡ page .id ⌝ }
