@@ -5,7 +5,7 @@ use crate::layout::{
     KW_MOST, ROW_BYTES,
 };
 use crate::listing::{DAYS, NET_CONE};
-use crate::random::Rng;
+use crate::random::{self, Rng, SMALL};
 use crate::reference::{npalist, HEADING};
 use crate::streams::{self, Case};
 use std::collections::HashSet;
@@ -187,6 +187,26 @@ pub fn random_page(rng: &mut Rng, number: u64) -> Case {
     let mut input = with_id(&case, id);
     if rng.one_in(100) {
         input.stream.truncate(rng.index(4));
+    }
+    input
+}
+
+/// The small input with this number: every fifth has an absent id, 0 or the largest number; every tenth is cut in its
+/// id.
+pub fn small_page(rng: &mut Rng, number: u64) -> Case {
+    let calls = rng.index(4);
+    let stream = random::stream(rng, &SMALL, calls);
+    let roster = roster(&stream);
+    let id = match number % 20 {
+        _ if roster.is_empty() => 1,
+        0 | 10 => absent(&roster, rng.pick(&roster)),
+        5 => 0,
+        15 => u32::MAX,
+        _ => rng.pick(&roster),
+    };
+    let mut input = with_id(&Case::new(format!("small stream {number}"), stream), id);
+    if number % 10 == 9 {
+        input.stream.truncate((number / 10 % 4) as usize);
     }
     input
 }

@@ -1,12 +1,13 @@
-//! Small calls with the reference's answers, for an evaluator that is slow.
+//! Small calls and inputs with the reference's answers, for an evaluator that is slow.
 
+use crate::pages::small_page;
 use crate::random::{
-    long_open, long_settle, open_call_for, settle_call_for, OpenCall, Rng, RunningYear, SettleCall,
-    SMALL,
+    event_of_one, long_open, long_settle, open_call_for, refused_event, settle_call_for,
+    small_event, EventCall, OpenCall, Rng, RunningYear, SettleCall, SMALL,
 };
 use crate::reference;
 
-/// A call of opening or settling, with its answer and the buffers it leaves.
+/// A call of opening, of settling or on an event, with its answer and the buffers it leaves.
 pub enum Case {
     Open {
         call: OpenCall,
@@ -18,6 +19,12 @@ pub enum Case {
         ground: u32,
         ledger: Vec<u8>,
         result: Vec<u8>,
+    },
+    Event {
+        call: EventCall,
+        ground: u32,
+        /// With the files as they were.
+        left: EventCall,
     },
 }
 
@@ -46,15 +53,25 @@ impl Case {
         }
     }
 
+    /// The reference's answer to a call on an event.
+    fn event(call: EventCall) -> Case {
+        let mut left = call.clone();
+        let (ledger, result) = (&mut left.ledger, &mut left.result);
+        let ground = reference::event(ledger, &left.files, result, &mut left.count);
+        Case::Event { call, ground, left }
+    }
+
     /// The answer.
     pub fn ground(&self) -> u32 {
         match self {
-            Case::Open { ground, .. } | Case::Settle { ground, .. } => *ground,
+            Case::Open { ground, .. }
+            | Case::Settle { ground, .. }
+            | Case::Event { ground, .. } => *ground,
         }
     }
 }
 
-/// So many cases; every fourth opens, and one in 200 has a length at a limit.
+/// So many calls of opening and settling; every fourth opens, and one in 200 has a length at a limit.
 pub fn cases(seed: u64, count: u64) -> Vec<Case> {
     let mut rng = Rng::new(seed);
     let mut year = RunningYear::open(&mut rng, &SMALL);
@@ -78,4 +95,60 @@ pub fn cases(seed: u64, count: u64) -> Vec<Case> {
             }
         })
         .collect()
+}
+
+/// The grounds on which a file is refused wherever it stands in an event; 16 needs a full pool, which events of one
+/// file have.
+const ANYWHERE: [u32; 10] = [7, 8, 9, 10, 11, 12, 13, 14, 15, 22];
+
+/// So many calls on events: by turns whole or damaged anywhere, refused at each place on each ground, and of one file.
+pub fn events(seed: u64, count: u64) -> Vec<Case> {
+    let mut rng = Rng::new(seed);
+    let call = |index: u64| {
+        let number = index / 3;
+        let call = match index % 3 {
+            0 => small_event(&mut rng, &SMALL, number % 20),
+            1 => {
+                let ground = ANYWHERE[number as usize % ANYWHERE.len()];
+                refused_event(&mut rng, &SMALL, number as usize % 3, ground)
+            }
+            _ => event_of_one(&mut rng, &SMALL, 6 + (number % 11) as u32),
+        };
+        Case::event(call)
+    };
+    (0..count).map(call).collect()
+}
+
+/// An input of npapage with the reference's page, and the reference's listing of its stream.
+pub struct Input {
+    pub bytes: Vec<u8>,
+    pub page: Vec<u8>,
+    pub listing: Vec<u8>,
+}
+
+impl Input {
+    fn new(bytes: Vec<u8>) -> Input {
+        Input {
+            page: reference::npapage(&bytes),
+            listing: reference::npalist(stream_in(&bytes)),
+            bytes,
+        }
+    }
+
+    /// The stream after the id.
+    pub fn stream(&self) -> &[u8] {
+        stream_in(&self.bytes)
+    }
+}
+
+/// The stream after an id; none where the id is cut.
+fn stream_in(input: &[u8]) -> &[u8] {
+    input.get(4..).unwrap_or_default()
+}
+
+/// So many inputs.
+pub fn inputs(seed: u64, count: u64) -> Vec<Input> {
+    let mut rng = Rng::new(seed);
+    let input = |number| Input::new(small_page(&mut rng, number).stream);
+    (0..count).map(input).collect()
 }

@@ -10,6 +10,7 @@ use npa_tests::random::{
     OpenCall, Rng, RunningYear, SettleCall, Size, FULL, MIDDLE, SMALL,
 };
 use npa_tests::reference::{npalist, open, settle, HEADING};
+use npa_tests::small::{events, inputs, Case};
 use std::collections::{BTreeMap, BTreeSet};
 
 /// Opens and checks which bytes changed; the answer.
@@ -270,6 +271,57 @@ fn streams_are_listed_to_some_end() {
         pools += lines.matches("pool,").count();
     }
     assert!(cuts > 50 && refusals > 100 && pools > 500);
+}
+
+#[test]
+fn small_events_are_refused_on_every_ground_and_at_each_place() {
+    let (mut seen, mut short) = (BTreeSet::new(), 0);
+    for case in events(1, 100) {
+        let Case::Event { call, ground, left } = case else {
+            panic!("a case that is no event");
+        };
+        assert!(call.ledger.len() < 1_500 && call.files.len() < 4_500);
+        if ground == 20 {
+            assert!(call.count.len() < 8);
+            short += 1;
+        } else {
+            seen.insert((ground, long_at(&left.count, 0).unwrap()));
+        }
+    }
+    let anywhere = (7..=15).chain([22]);
+    let refused = anywhere.flat_map(|ground| [0, 1, 2].map(|place| (ground, place)));
+    let wanted = refused.chain([(0, 0), (0, 1), (0, 2), (0, 3), (6, 0), (16, 0)]);
+    let missing: Vec<_> = wanted.filter(|pair| !seen.contains(pair)).collect();
+    assert!(missing.is_empty(), "no {missing:?}");
+    assert!(short > 0, "no short count");
+}
+
+#[test]
+fn small_pages_have_every_sort_of_line() {
+    let (mut seen, mut ids_cut) = (BTreeSet::new(), BTreeSet::new());
+    for input in inputs(1, 40) {
+        let length = input.bytes.len();
+        assert!(length < 3_000);
+        if length < 4 {
+            ids_cut.insert(length);
+            continue;
+        }
+        let page = String::from_utf8(input.page).unwrap();
+        for line in page.lines().skip(1) {
+            let words: Vec<&str> = line.split(',').collect();
+            seen.insert(match words[..] {
+                ["refused", "0", "17"] => "not on the roster",
+                ["refused", "0", _] => "opening refused",
+                ["refused", ..] => "interval refused",
+                ["cut", "0"] => "opening cut",
+                ["cut", _] => "interval cut",
+                ["year", ..] => "year",
+                _ => "row",
+            });
+        }
+    }
+    assert_eq!(seen.len(), 7, "{seen:?}");
+    assert_eq!(ids_cut, BTreeSet::from([0, 1, 2, 3]));
 }
 
 #[test]
