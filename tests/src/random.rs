@@ -10,7 +10,7 @@ mod world;
 mod years;
 
 pub use self::event::event_file;
-pub use self::event_calls::{event_call, event_of_one, refused_event, small_event};
+pub use self::event_calls::{accepted_event, event_call, event_of_one, refused_event, small_event};
 pub use self::world::{rising, some_of, valid_open, valid_settle, World};
 pub use self::years::{stream, year, RunningYear, Year};
 

@@ -2,8 +2,8 @@
 
 use crate::pages::small_page;
 use crate::random::{
-    event_of_one, long_open, long_settle, open_call_for, refused_event, settle_call_for,
-    small_event, EventCall, OpenCall, Rng, RunningYear, SettleCall, SMALL,
+    accepted_event, event_of_one, long_open, long_settle, open_call_for, refused_event,
+    settle_call_for, small_event, EventCall, OpenCall, Rng, RunningYear, SettleCall, SMALL,
 };
 use crate::reference;
 
@@ -101,12 +101,14 @@ pub fn cases(seed: u64, count: u64) -> Vec<Case> {
 /// file have.
 const ANYWHERE: [u32; 10] = [7, 8, 9, 10, 11, 12, 13, 14, 15, 22];
 
-/// So many calls on events: by turns whole or damaged anywhere, refused at each place on each ground, and of one file.
+/// So many calls on events: by turns whole or damaged anywhere (among them accepted ones of 0 to 3
+/// files), refused at each place on each ground, and of one file.
 pub fn events(seed: u64, count: u64) -> Vec<Case> {
     let mut rng = Rng::new(seed);
     let call = |index: u64| {
         let number = index / 3;
         let call = match index % 3 {
+            0 if number % 20 >= 16 => accepted_event(&mut rng, &SMALL, number % 4),
             0 => small_event(&mut rng, &SMALL, number % 20),
             1 => {
                 let ground = ANYWHERE[number as usize % ANYWHERE.len()];

@@ -276,7 +276,7 @@ fn streams_are_listed_to_some_end() {
 #[test]
 fn small_events_are_refused_on_every_ground_and_at_each_place() {
     let (mut seen, mut short) = (BTreeSet::new(), 0);
-    for case in events(1, 600) {
+    for case in events(1, 100) {
         let Case::Event { call, ground, left } = case else {
             panic!("a case that is no event");
         };

@@ -28,6 +28,14 @@ pub fn small_event(rng: &mut Rng, size: &Size, sort: u64) -> EventCall {
     })
 }
 
+/// An accepted event of so many files, at most three.
+pub fn accepted_event(rng: &mut Rng, size: &Size, files: u64) -> EventCall {
+    first_made(&format!("an accepted event of {files} files"), || {
+        let call = whole_event(rng, size, &[3]);
+        (ends(&call, 0, files) && event_counts_fit(&call, size)).then_some(call)
+    })
+}
+
 /// An event of up to so many files, one of the numbers, in a year that has just begun.
 fn whole_event(rng: &mut Rng, size: &Size, most: &[usize]) -> EventCall {
     let mut year = RunningYear::open(rng, size);
@@ -73,12 +81,16 @@ pub fn event_of_one(rng: &mut Rng, size: &Size, ground: u32) -> EventCall {
 pub fn refused_event(rng: &mut Rng, size: &Size, place: usize, ground: u32) -> EventCall {
     first_made(&format!("an event refused by {ground} at {place}"), || {
         let call = damaged_at(rng, size, place, ground);
-        let mut left = call.clone();
-        let (ledger, result) = (&mut left.ledger, &mut left.result);
-        let answer = reference::event(ledger, &left.files, result, &mut left.count);
-        let met = answer == ground && long_at(&left.count, 0) == Some(place as u64);
-        (met && event_counts_fit(&call, size)).then_some(call)
+        (ends(&call, ground, place as u64) && event_counts_fit(&call, size)).then_some(call)
     })
+}
+
+/// Whether the reference gives this answer and counts so many files.
+fn ends(call: &EventCall, ground: u32, files: u64) -> bool {
+    let mut left = call.clone();
+    let (ledger, result) = (&mut left.ledger, &mut left.result);
+    let answer = reference::event(ledger, &left.files, result, &mut left.count);
+    answer == ground && long_at(&left.count, 0) == Some(files)
 }
 
 /// An event of three files, damaged for this ground at the one at this place.
