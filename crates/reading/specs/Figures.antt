@@ -6,7 +6,7 @@ use lib.ListN.{length, replicate}
 use lib.IntN.{ℤ, pos, negsuc}
 use Rattle.words.specs.Words.{bytesOfWords}
 use Rattle.words.specs.Figures.{Figure, _gives_, AllAsStated, test}
-use Rattle.reading.specs.Block.{blockWords, blockOf, notABlock, termsOutside, idsMisplaced, idsOutOfOrder}
+use Rattle.reading.specs.Block.{Terms, blockWords, blockOf, notABlock, termsOutside, yearOutside, yearUnknown, idsMisplaced, idsOutOfOrder}
 use Rattle.reading.specs.Interval.{
   Header,
   Point,
@@ -25,6 +25,10 @@ use Rattle.reading.specs.Interval.{
 unfoldable pub sampleBlock : List ℕ
 sampleBlock = bytesOfWords 4 (1 ∷ 2 ∷ 3 ∷ 2 ∷ 24 ∷ 99 ∷ 7 ∷ 8 ∷ 99 ∷ [])
 
+-- a block that names its year, with a word before its ids, and another after them
+unfoldable pub datedBlock : List ℕ
+datedBlock = bytesOfWords 4 (2 ∷ 3 ∷ 4 ∷ 2 ∷ 28 ∷ 2016 ∷ 99 ∷ 7 ∷ 8 ∷ 99 ∷ [])
+
 -- a file of one row whose words all differ, before which three points stand
 unfoldable pub sampleFile : List ℕ
 sampleFile =
@@ -38,13 +42,17 @@ sampleFile =
 -- each word is read from its place
 pub record LayoutFigures : Type 0 where
   pub block-words : blockWords sampleBlock
-      ≡ record { format = 1; terms = record { netCone = 2; days = 3 }; idCount = 2; idsOffset = 24 }
-  pub block : blockOf sampleBlock ≡ record { terms = record { netCone = 2; days = 3 }; ids = 7 ∷ 8 ∷ [] }
+      ≡ record { format = 1; terms = record { netCone = 2; days = 3; year = 0 }; idCount = 2; idsOffset = 24 }
+  pub block : blockOf sampleBlock ≡ record { terms = record { netCone = 2; days = 3; year = 0 }; ids = 7 ∷ 8 ∷ [] }
+  pub dated-words : blockWords datedBlock
+      ≡ record { format = 2; terms = record { netCone = 3; days = 4; year = 2016 }; idCount = 2; idsOffset = 28 }
+  pub dated : blockOf datedBlock ≡ record { terms = record { netCone = 3; days = 4; year = 2016 }; ids = 7 ∷ 8 ∷ [] }
   pub header : headerOf sampleFile
       ≡ record {
         format = 1;
         interval = 2;
-        terms = record { netCone = 3; days = 4 };
+        netCone = 3;
+        days = 4;
         regionWide = 5;
         imports = negsuc 5;
         rowCount = 1;
@@ -93,7 +101,8 @@ abbrev pub headerWith : ℕ → ℕ → ℕ → ℤ → Header
 headerWith interval days regionWide imports = record {
   format = 1;
   interval = interval;
-  terms = record { netCone = 1; days = days };
+  netCone = 1;
+  days = days;
   regionWide = regionWide;
   imports = imports;
   rowCount = 0;
@@ -149,6 +158,15 @@ wordsOfPoints (p ∷ ps) = wordOf (p .price) ∷ p .kw ∷ wordsOfPoints ps
 unfoldable pub pointed : List Point → List ℕ
 pointed ps = bytesOfWords 4 (1 ∷ 0 ∷ 0 ∷ 0 ∷ 0 ∷ 0 ∷ 0 ∷ 0 ∷ length ps ∷ 40 ∷ wordsOfPoints ps)
 
+-- the terms of a Net CONE, days and a year
+abbrev pub termsWith : ℕ → ℕ → ℕ → Terms
+termsWith netCone days year = record { netCone = netCone; days = days; year = year }
+
+-- a block of a format with these terms and no ids: whether ground 23 refuses it
+abbrev pub refusedYear : ℕ → ℕ → ℕ → ℕ
+refusedYear format days year =
+    test (yearUnknown (record { format = format; terms = termsWith 1 days year; idCount = 0; idsOffset = 0 }))
+
 -- grounds 1 to 4, at a bound and beyond it
 unfoldable pub blockGroundFigures : List Figure
 blockGroundFigures =
@@ -156,23 +174,55 @@ blockGroundFigures =
     ∷ test (notABlock (bytesOfWords 4 (1 ∷ 0 ∷ 0 ∷ 0 ∷ []) ++ replicate 3 0)) gives 1
     ∷ test (notABlock (bytesOfWords 4 (1 ∷ []) ++ replicate 4092 0)) gives 0
     ∷ test (notABlock (bytesOfWords 4 (1 ∷ []) ++ replicate 4093 0)) gives 1
+    -- format 2 begins at 24 bytes; there is no format 0 or 3
+    ∷ test (notABlock (bytesOfWords 4 (2 ∷ 0 ∷ 0 ∷ 0 ∷ 0 ∷ 0 ∷ []))) gives 0
+    ∷ test (notABlock (bytesOfWords 4 (2 ∷ 0 ∷ 0 ∷ 0 ∷ 0 ∷ []) ++ replicate 3 0)) gives 1
     ∷ test (notABlock (bytesOfWords 4 (2 ∷ 0 ∷ 0 ∷ 0 ∷ 0 ∷ []))) gives 1
-    ∷ test (termsOutside (record { netCone = 0; days = 365 })) gives 1
-    ∷ test (termsOutside (record { netCone = 1; days = 365 })) gives 0
-    ∷ test (termsOutside (record { netCone = 200000; days = 366 })) gives 0
-    ∷ test (termsOutside (record { netCone = 200001; days = 366 })) gives 1
-    ∷ test (termsOutside (record { netCone = 1; days = 364 })) gives 1
-    ∷ test (termsOutside (record { netCone = 1; days = 367 })) gives 1
+    ∷ test (notABlock (bytesOfWords 4 (2 ∷ []) ++ replicate 4092 0)) gives 0
+    ∷ test (notABlock (bytesOfWords 4 (2 ∷ []) ++ replicate 4093 0)) gives 1
+    ∷ test (notABlock (replicate 24 0)) gives 1
+    ∷ test (notABlock (bytesOfWords 4 (3 ∷ 0 ∷ 0 ∷ 0 ∷ 0 ∷ 0 ∷ []))) gives 1
+    ∷ test (termsOutside (termsWith 0 365 0)) gives 1
+    ∷ test (termsOutside (termsWith 1 365 0)) gives 0
+    ∷ test (termsOutside (termsWith 200000 366 0)) gives 0
+    ∷ test (termsOutside (termsWith 200001 366 0)) gives 1
+    ∷ test (termsOutside (termsWith 1 364 0)) gives 1
+    ∷ test (termsOutside (termsWith 1 367 0)) gives 1
+    -- the year is not ground 2's
+    ∷ test (termsOutside (termsWith 1 365 2017)) gives 0
     ∷ test (idsMisplaced (bytesOfWords 4 (1 ∷ 1 ∷ 365 ∷ 0 ∷ 20 ∷ []))) gives 1
     ∷ test (idsMisplaced (bytesOfWords 4 (1 ∷ 1 ∷ 365 ∷ 1 ∷ 20 ∷ 7 ∷ []))) gives 0
     ∷ test (idsMisplaced (bytesOfWords 4 (1 ∷ 1 ∷ 365 ∷ 1 ∷ 19 ∷ 7 ∷ []))) gives 1
     ∷ test (idsMisplaced (bytesOfWords 4 (1 ∷ 1 ∷ 365 ∷ 1 ∷ 21 ∷ 7 ∷ []))) gives 1
+    -- in format 2 the ids lie from byte 24 on
+    ∷ test (idsMisplaced (bytesOfWords 4 (2 ∷ 1 ∷ 365 ∷ 1 ∷ 24 ∷ 2018 ∷ 7 ∷ []))) gives 0
+    ∷ test (idsMisplaced (bytesOfWords 4 (2 ∷ 1 ∷ 365 ∷ 1 ∷ 23 ∷ 2018 ∷ 7 ∷ []))) gives 1
+    ∷ test (idsMisplaced (bytesOfWords 4 (2 ∷ 1 ∷ 365 ∷ 1 ∷ 20 ∷ 2018 ∷ 7 ∷ []))) gives 1
     ∷ test (idsMisplaced (bytesOfWords 4 (1 ∷ 1 ∷ 365 ∷ 512 ∷ 20 ∷ []) ++ replicate 2048 1)) gives 0
     ∷ test (idsMisplaced (bytesOfWords 4 (1 ∷ 1 ∷ 365 ∷ 513 ∷ 20 ∷ []) ++ replicate 2052 1)) gives 1
     ∷ test (idsOutOfOrder (1 ∷ 2 ∷ [])) gives 0
     ∷ test (idsOutOfOrder (0 ∷ 2 ∷ [])) gives 1
     ∷ test (idsOutOfOrder (2 ∷ 2 ∷ [])) gives 1
     ∷ test (idsOutOfOrder (2 ∷ 1 ∷ [])) gives 1
+    ∷ []
+
+-- ground 23: the years of format 2, at a bound and beyond it; format 1 names none
+unfoldable pub yearFigures : List Figure
+yearFigures =
+    refusedYear 2 365 2016 gives 0
+    ∷ refusedYear 2 366 2016 gives 1
+    ∷ refusedYear 2 365 2015 gives 1
+    ∷ refusedYear 2 365 2017 gives 1
+    ∷ refusedYear 2 365 2018 gives 0
+    ∷ refusedYear 2 366 2018 gives 0
+    ∷ refusedYear 2 365 2023 gives 0
+    ∷ refusedYear 2 366 2023 gives 0
+    ∷ refusedYear 2 365 2024 gives 1
+    ∷ refusedYear 2 365 0 gives 1
+    ∷ refusedYear 2 365 4294967295 gives 1
+    ∷ refusedYear 1 365 0 gives 0
+    ∷ refusedYear 1 366 0 gives 0
+    ∷ test (yearOutside (termsWith 1 365 4294969312)) gives 1
     ∷ []
 
 -- grounds 7, 9 and 11, at a bound and beyond it
@@ -259,6 +309,7 @@ pointGroundFigures =
 -- all figures of grounds that a block or a file alone decides
 pub record ReadingGroundFigures : Type 0 where
   pub block : AllAsStated blockGroundFigures
+  pub year : AllAsStated yearFigures
   pub file : AllAsStated fileGroundFigures
   pub row : AllAsStated rowGroundFigures
   pub points : AllAsStated pointGroundFigures

@@ -9,7 +9,6 @@ use lib.Signed.{ltZ}
 use Rattle.words.specs.Lists.{any}
 use Rattle.words.specs.Words.{word32, signed, entries}
 use Rattle.words.specs.Grounds.{outside, beyond, liesFrom, overlap}
-use Rattle.reading.specs.Block.{Terms}
 
 -- bytes of the header of 10 words
 abbrev pub headerBytes : ℕ
@@ -67,7 +66,8 @@ mostPrice = 1000000
 pub record Header : Type 0 where
   pub format : ℕ
   pub interval : ℕ
-  pub terms : Terms
+  pub netCone : ℕ
+  pub days : ℕ
   pub regionWide : ℕ
   pub imports : ℤ
   pub rowCount : ℕ
@@ -80,7 +80,8 @@ unfoldable pub headerOf : List ℕ → Header
 headerOf f = record {
   format = word32 f 0;
   interval = word32 f 1;
-  terms = record { netCone = word32 f 2; days = word32 f 3 };
+  netCone = word32 f 2;
+  days = word32 f 3;
   regionWide = word32 f 4;
   imports = signed (word32 f 5);
   rowCount = word32 f 6;
@@ -227,7 +228,7 @@ notAFile f = outside headerBytes mostFileBytes (length f) || not (eqb (headerOf 
 
 -- ground 9: the interval, region-wide or the imports
 unfoldable pub headerOutside : Header → Bool
-headerOutside h = leb (intervalsPerDay * h .terms .days) (h .interval) || ltb 1 (h .regionWide) || beyond mostImports (h .imports)
+headerOutside h = leb (intervalsPerDay * h .days) (h .interval) || ltb 1 (h .regionWide) || beyond mostImports (h .imports)
 
 -- ground 11: the numbers of rows and points, a table that leaves bytes 40 to the end, or two that share a byte
 unfoldable pub tablesMisplaced : List ℕ → Bool

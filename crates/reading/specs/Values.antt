@@ -6,6 +6,7 @@ use mathlib.Core.Bool.{false}
 use lib.ListN.{length}
 use Rattle.words.specs.Lists.{any}
 use Rattle.reading.specs.Block.{blockHeaderBytes, mostIds, idBytes, Terms, BlockWords, blockWords}
+use Rattle.reading.specs.Formats.{Sizes}
 use Rattle.reading.specs.Interval.{
   headerBytes,
   rowBytes,
@@ -23,12 +24,17 @@ use Rattle.reading.specs.Interval.{
 use Rattle.reading.specs.declared.block.Terms.{Terms as TermsValue}
 use Rattle.reading.specs.declared.block.Block.{Block as BlockValue}
 use Rattle.reading.specs.declared.header.Header.{Header as HeaderValue}
+use Rattle.reading.specs.declared.spans.Sizes.{Sizes as SizesValue}
 use Rattle.reading.specs.declared.rows.Row.{Row as RowValue}
 use Rattle.reading.specs.declared.rows.Point.{Point as PointValue}
 
+-- the sizes that a value says
+unfoldable pub sizesIn : SizesValue → Sizes
+sizesIn s = record { least = s .least; most = s .most }
+
 -- the terms that a value says
 unfoldable pub termsIn : TermsValue → Terms
-termsIn t = record { netCone = t .«net_cone»; days = t .days }
+termsIn t = record { netCone = t .«net_cone»; days = t .days; year = t .year }
 
 -- the words of an opening block that a value says
 unfoldable pub blockIn : BlockValue → BlockWords
@@ -39,7 +45,8 @@ unfoldable pub headerIn : HeaderValue → Header
 headerIn h = record {
   format = h .format;
   interval = h .interval;
-  terms = termsIn (h .terms);
+  netCone = h .«net_cone»;
+  days = h .days;
   regionWide = h .«region_wide»;
   imports = h .imports;
   rowCount = h .rows;
@@ -73,7 +80,7 @@ pointIn p = record { price = p .price; kw = p .kw }
 
 -- a value read from a block that ground 1 does not refuse
 pub record BlockRead (block : List ℕ) (b : BlockValue) : Type 0 where
-  pub long : blockHeaderBytes ≤ length block
+  pub long : blockHeaderBytes (b .format) ≤ length block
   pub says : blockIn b ≡ blockWords block
 
 -- and ground 3 does not refuse it: its ids lie within the block

@@ -1,18 +1,16 @@
 // The interval file's header and the place of its tables: its values, and grounds 7, 9 and 11.
 
-use crate::block::Terms;
 use crate::spans::Span;
 use crate::spans::not_of_format;
 use words::number32;
 use words::signed;
 ghost use mathlib.Core.Path.{_≡_};
-ghost use mathlib.Core.Bool.{false};
 ghost use Prim.Native.Nat.{_≤_, _<_, _^_};
 ghost use lib.ListN.{length};
 ghost use Rattle.words.specs.Grounds.{beyond as beyondOf};
-ghost use Rattle.reading.specs.Block.{termsOutside};
+ghost use Rattle.reading.specs.Block.{leapYear};
 ghost use Rattle.reading.specs.Interval.{headerBytes, headerOf, notAFile, headerOutside, tablesMisplaced};
-ghost use Rattle.reading.specs.Values.{termsIn, headerIn, HeaderRead};
+ghost use Rattle.reading.specs.Values.{headerIn, HeaderRead};
 
 const HEADER_BYTES: usize = 40;
 
@@ -36,7 +34,8 @@ pub const POINT_BYTES: usize = 8;
 pub struct Header {
     pub format: u64,
     pub interval: u64,
-    pub terms: Terms,
+    pub net_cone: u64,
+    pub days: u64,
     pub region_wide: u64,
     pub imports: i64,
     pub rows: usize,
@@ -50,14 +49,11 @@ pub fn header_of(file: &[u8]) -> Header
     requires { ⌜ headerBytes ≤ length (now file) ⌝ }
     ensures { λ r. ⌜ headerIn r ≡ headerOf (now (file .entry)) ⌝ }
 {
-    let terms = Terms {
-        net_cone: number32(file, 8),
-        days: number32(file, 12),
-    };
     Header {
         format: number32(file, 0),
         interval: number32(file, 4),
-        terms,
+        net_cone: number32(file, 8),
+        days: number32(file, 12),
         region_wide: number32(file, 16),
         imports: signed(number32(file, 20)),
         rows: number32(file, 24) as usize,
@@ -86,13 +82,12 @@ pub fn beyond(z: i64, most: u64) -> bool
     high < z
 }
 
-// Ground 9, of a header whose terms are in range.
+// Ground 9, of a header that has the days of a year.
 pub fn header_outside(h: Header) -> bool
-    requires { ⌜ termsOutside (termsIn (h .terms)) ≡ false ⌝ }
+    requires { ⌜ h .days ≤ leapYear ⌝ }
     ensures { λ r. ⌜ r ≡ headerOutside (headerIn h) ⌝ }
 {
-    let terms = h.terms;
-    if INTERVALS_PER_DAY * terms.days <= h.interval {
+    if INTERVALS_PER_DAY * h.days <= h.interval {
         return true;
     }
     if 1 < h.region_wide {
