@@ -38,18 +38,16 @@ add-t11 c = omega (arith, product (c .before .before .before .before))
 returns : tie.Need-returns
 unfolding fullCharge chargeOver termsIn
 returns c =
-    let m = c .before in
-    let a = m .before .before .before .args in
+    let a = c .before .before .before .before .args in
     let t = termsIn (a .terms) in
-    ap (λ (d : Divisors). chargeOver (d .charge) t (a .short .0)) (sym (divisors-of-transition t (m .match .keys1)))
+    ap (λ (d : Divisors). chargeOver (d .charge) t (a .short .0)) (sym (divisors-of-transition t (c .match .keys1)))
 
 returns-2 : tie.Need-returns-2
 unfolding fullCharge chargeOver termsIn
 returns-2 c =
-    let m = c .before in
-    let a = m .before .before .before .args in
+    let a = c .before .before .before .before .args in
     let t = termsIn (a .terms) in
-    ap (λ (d : Divisors). chargeOver (d .charge) t (a .short .0)) (sym (divisors-of-others t (m .match .rest .1)))
+    ap (λ (d : Divisors). chargeOver (d .charge) t (a .short .0)) (sym (divisors-of-others t (c .match .rest .1)))
 
 pub full-charge-spec : {M : Type 1} → statement M
 full-charge-spec = tie.close (tie.spec mul-product mul-product-2 add-t8 add-t11 returns returns-2)
