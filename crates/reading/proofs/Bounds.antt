@@ -89,7 +89,7 @@ ids-rise is e =
 
 -- a header that ground 9 does not refuse
 pub record HeaderIn (h : Header) : Type 0 where
-  pub interval : h .interval < intervalsPerDay * h .terms .days
+  pub interval : h .interval < intervalsPerDay * h .days
   pub regionWide : h .regionWide ≤ 1
   pub imports : natAbs (h .imports) ≤ mostImports
 

@@ -1,6 +1,6 @@
 -- What grounds 1, 3, 7 and 11 leave known of a block and a file once they are ruled out.
 use Prim.Native.Nat.{ℕ, _+_, _≤_, _<_}
-use mathlib.Core.Path.{_≡_, sym, ap, _∙_}
+use mathlib.Core.Path.{_≡_, sym, ap, subst, _∙_}
 use mathlib.Core.List.{List, [], _∷_}
 use mathlib.Core.Bool.{false}
 use lib.ListN.{length}
@@ -9,7 +9,7 @@ use Rattle.words.specs.Grounds.{outside, liesFrom}
 use Rattle.words.proofs.Tests.{facts, not-outside}
 use Rattle.reading.specs.Block.{
   blockHeaderBytes,
-  mostBlockBytes,
+  blockSizes,
   blockWords,
   blockOf,
   notABlock,
@@ -30,14 +30,13 @@ use Rattle.reading.specs.Values.{termsIn, blockIn, headerIn, BlockRead, 
 use Rattle.reading.specs.declared.block.Block.{Block as BlockValue}
 use Rattle.reading.specs.declared.header.Header.{Header as HeaderValue}
 use Rattle.reading.proofs.Bounds.{length-ids}
+use Rattle.reading.proofs.SpanTests.{has-least}
 use Rattle.reading.proofs.RowsLeft.{length-rows, rowsLeft, rows-turn, rows-end}
 
--- a block that ground 1 does not refuse has its five words
-pub block-has-header : (b : List ℕ) → notABlock b ≡ false → blockHeaderBytes ≤ length b
-unfolding notABlock
-block-has-header b e =
-    let range : outside blockHeaderBytes mostBlockBytes (length b) ≡ false = search facts in
-    not-outside blockHeaderBytes mostBlockBytes (length b) range .0
+-- a block that ground 1 does not refuse has the words that stand before its ids
+pub block-has-header : (b : List ℕ) → notABlock b ≡ false → blockHeaderBytes (blockWords b .format) ≤ length b
+unfolding notABlock blockSizes blockWords
+block-has-header b e = has-least blockSizes b e
 
 -- a file that ground 7 does not refuse has its ten words
 pub file-has-header : (f : List ℕ) → notAFile f ≡ false → headerBytes ≤ length f
@@ -50,7 +49,9 @@ file-has-header f e =
 module _ {b : List ℕ} {v : BlockValue} where
   -- that says its words is read from it, where ground 1 does not refuse it
   pub block-read : notABlock b ≡ false → blockIn v ≡ blockWords b → BlockRead b v
-  block-read e says = record { long = block-has-header b e; says = says }
+  unfolding blockIn
+  block-read e says =
+      record { long = subst (λ w. blockHeaderBytes (w .format) ≤ length b) (sym says) (block-has-header b e); says = says }
 
   -- has the terms that the block states
   pub terms-of-block : BlockRead b v → termsIn (v .terms) ≡ blockOf b .terms

@@ -61,9 +61,9 @@ compared most z h k = rw (toZ-pos w64 most h, plain z k, plain (pos 0 -ℤ pos m
 -- ground 9
 module _ (h : Header) where
   -- ground 9 refuses an interval that is not below the number of intervals in the file's days
-  pub interval-late : intervalsPerDay * h .terms .days ≤ h .interval → headerOutside h ≡ true
+  pub interval-late : intervalsPerDay * h .days ≤ h .interval → headerOutside h ≡ true
   unfolding headerOutside
-  interval-late p = rw (le-leb (intervalsPerDay * h .terms .days) (h .interval) p)
+  interval-late p = rw (le-leb (intervalsPerDay * h .days) (h .interval) p)
 
   -- ground 9 refuses a region-wide word above 1
   pub region-above : 1 < h .regionWide → headerOutside h ≡ true
@@ -71,11 +71,11 @@ module _ (h : Header) where
   region-above p = rw (lt-ltb 1 (h .regionWide) p, or-true)
 
   -- with interval and region-wide word in range, the net imports decide ground 9
-  pub imports-left : h .interval < intervalsPerDay * h .terms .days → h .regionWide ≤ 1
+  pub imports-left : h .interval < intervalsPerDay * h .days → h .regionWide ≤ 1
       → headerOutside h ≡ beyond mostImports (h .imports)
   unfolding headerOutside
   imports-left early flag =
-      rw (lt-leb (intervalsPerDay * h .terms .days) (h .interval) early, le-ltb 1 (h .regionWide) flag)
+      rw (lt-leb (intervalsPerDay * h .days) (h .interval) early, le-ltb 1 (h .regionWide) flag)
 
 -- ground 11, of a file whose header is known: one test that fails decides
 module _ (f : List ℕ) (h : Header) (says : h ≡ headerOf f) where

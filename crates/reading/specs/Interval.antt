@@ -9,7 +9,7 @@ use lib.Signed.{ltZ}
 use Rattle.words.specs.Lists.{any}
 use Rattle.words.specs.Words.{word32, signed, entries}
 use Rattle.words.specs.Grounds.{outside, beyond, liesFrom, overlap}
-use Rattle.reading.specs.Block.{Terms}
+use Rattle.reading.specs.Formats.{Sizes, notOfFormats}
 
 -- word 0 of a file whose rows name points
 abbrev pub curvesFormat : ℕ
@@ -104,7 +104,8 @@ mostPrice = 1000000
 pub record Header : Type 0 where
   pub format : ℕ
   pub interval : ℕ
-  pub terms : Terms
+  pub netCone : ℕ
+  pub days : ℕ
   pub regionWide : ℕ
   pub imports : ℤ
   pub rowCount : ℕ
@@ -119,7 +120,8 @@ unfoldable pub headerOf : List ℕ → Header
 headerOf f = record {
   format = word32 f 0;
   interval = word32 f 1;
-  terms = record { netCone = word32 f 2; days = word32 f 3 };
+  netCone = word32 f 2;
+  days = word32 f 3;
   regionWide = word32 f 4;
   imports = signed (word32 f 5);
   rowCount = word32 f 6;
@@ -312,15 +314,17 @@ kindOf k =
     (cond (eqb k 5) importer
     noKind)))))
 
--- ground 7: the file's format, or its length in that format
+-- the least and the most bytes of a file of a format
+unfoldable pub fileSizes : ℕ → Sizes
+fileSizes format = record { least = layoutOf format .headerBytes; most = layoutOf format .mostBytes }
+
+-- ground 7: the file's length, or its format
 unfoldable pub notAFile : List ℕ → Bool
-notAFile f =
-    outside curvesFormat schedulesFormat (headerOf f .format)
-    || outside (fileLayout f .headerBytes) (fileLayout f .mostBytes) (length f)
+notAFile f = notOfFormats (fileSizes curvesFormat) (fileSizes schedulesFormat) f
 
 -- ground 9: the interval, region-wide or the imports
 unfoldable pub headerOutside : Header → Bool
-headerOutside h = leb (intervalsPerDay * h .terms .days) (h .interval) || ltb 1 (h .regionWide) || beyond mostImports (h .imports)
+headerOutside h = leb (intervalsPerDay * h .days) (h .interval) || ltb 1 (h .regionWide) || beyond mostImports (h .imports)
 
 -- a table of a file: its byte offset, and its bytes
 pub record Table : Type 0 where

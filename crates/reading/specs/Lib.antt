@@ -1,3 +1,4 @@
+pub mod Formats
 pub mod Block
 pub mod Interval
 pub mod Values

@@ -6,10 +6,10 @@ use mathlib.Core.Bool.{false}
 use lib.ListN.{length}
 use Rattle.words.specs.Lists.{any}
 use Rattle.reading.specs.Block.{blockHeaderBytes, mostIds, idBytes, Terms, BlockWords, blockWords}
+use Rattle.reading.specs.Formats.{Sizes}
 use Rattle.reading.specs.Interval.{
   Layout,
   layoutOf,
-  fileLayout,
   pointBytes,
   scheduleBytes,
   mostRows,
@@ -31,13 +31,18 @@ use Rattle.reading.specs.declared.block.Block.{Block as BlockValue}
 use Rattle.reading.specs.declared.spans.Span.{Span as SpanValue}
 use Rattle.reading.specs.declared.header.Layout.{Layout as LayoutValue}
 use Rattle.reading.specs.declared.header.Header.{Header as HeaderValue}
+use Rattle.reading.specs.declared.spans.Sizes.{Sizes as SizesValue}
 use Rattle.reading.specs.declared.rows.Row.{Row as RowValue}
 use Rattle.reading.specs.declared.rows.Schedule.{Schedule as ScheduleValue}
 use Rattle.reading.specs.declared.rows.Point.{Point as PointValue}
 
+-- the sizes that a value says
+unfoldable pub sizesIn : SizesValue → Sizes
+sizesIn s = record { least = s .least; most = s .most }
+
 -- the terms that a value says
 unfoldable pub termsIn : TermsValue → Terms
-termsIn t = record { netCone = t .«net_cone»; days = t .days }
+termsIn t = record { netCone = t .«net_cone»; days = t .days; year = t .year }
 
 -- the words of an opening block that a value says
 unfoldable pub blockIn : BlockValue → BlockWords
@@ -56,7 +61,8 @@ unfoldable pub headerIn : HeaderValue → Header
 headerIn h = record {
   format = h .format;
   interval = h .interval;
-  terms = termsIn (h .terms);
+  netCone = h .«net_cone»;
+  days = h .days;
   regionWide = h .«region_wide»;
   imports = h .imports;
   rowCount = h .rows;
@@ -97,7 +103,7 @@ pointIn p = record { price = p .price; kw = p .kw }
 
 -- a value read from a block that ground 1 does not refuse
 pub record BlockRead (block : List ℕ) (b : BlockValue) : Type 0 where
-  pub long : blockHeaderBytes ≤ length block
+  pub long : blockHeaderBytes (b .format) ≤ length block
   pub says : blockIn b ≡ blockWords block
 
 -- and ground 3 does not refuse it: its ids lie within the block
@@ -108,7 +114,7 @@ pub record Listed (block : List ℕ) (b : BlockValue) : Type 0 where
 
 -- a header read from a file that ground 7 does not refuse
 pub record HeaderRead (file : List ℕ) (h : HeaderValue) : Type 0 where
-  pub long : fileLayout file .headerBytes ≤ length file
+  pub long : layoutOf (h .format) .headerBytes ≤ length file
   pub says : headerIn h ≡ headerOf file
 
 -- and ground 11 does not refuse it: its tables lie within the file

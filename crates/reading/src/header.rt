@@ -1,15 +1,15 @@
 // The interval file's header and the place of its tables, in both formats: its values, and grounds 7, 9 and 11.
 
-use crate::block::Terms;
+use crate::spans::Sizes;
 use crate::spans::Span;
+use crate::spans::not_of_formats;
 use words::number32;
 use words::signed;
 ghost use mathlib.Core.Path.{_≡_};
-ghost use mathlib.Core.Bool.{false};
-ghost use Prim.Native.Nat.{_*_, _≤_, _<_, _^_};
+ghost use Prim.Native.Nat.{_≤_, _<_, _^_};
 ghost use lib.ListN.{length};
 ghost use Rattle.words.specs.Grounds.{beyond as beyondOf};
-ghost use Rattle.reading.specs.Block.{termsOutside};
+ghost use Rattle.reading.specs.Block.{leapYear};
 ghost use Rattle.reading.specs.Interval.{
   layoutOf,
   fileLayout,
@@ -19,7 +19,7 @@ ghost use Rattle.reading.specs.Interval.{
   placesOutside,
   tablesMisplaced,
 };
-ghost use Rattle.reading.specs.Values.{termsIn, tableIn, layoutIn, headerIn, HeaderRead};
+ghost use Rattle.reading.specs.Values.{tableIn, layoutIn, headerIn, HeaderRead};
 
 // Format 1, whose rows name points, and format 2, whose rows name schedules.
 pub const CURVES: u64 = 1;
@@ -71,7 +71,8 @@ pub fn layout_of(format: u64) -> Layout
 pub struct Header {
     pub format: u64,
     pub interval: u64,
-    pub terms: Terms,
+    pub net_cone: u64,
+    pub days: u64,
     pub region_wide: u64,
     pub imports: i64,
     pub rows: usize,
@@ -112,14 +113,11 @@ pub fn header_of(file: &[u8]) -> Header
     ensures { λ r. ⌜ headerIn r ≡ headerOf (now (file .entry)) ⌝ }
 {
     let format = number32(file, 0);
-    let terms = Terms {
-        net_cone: number32(file, 8),
-        days: number32(file, 12),
-    };
     Header {
         format,
         interval: number32(file, 4),
-        terms,
+        net_cone: number32(file, 8),
+        days: number32(file, 12),
         region_wide: number32(file, 16),
         imports: signed(number32(file, 20)),
         rows: number32(file, 24) as usize,
@@ -135,21 +133,17 @@ pub fn header_of(file: &[u8]) -> Header
 pub fn not_a_file(file: &[u8]) -> bool
     ensures { λ r. ⌜ r ≡ notAFile (now (file .entry)) ⌝ }
 {
-    if file.len() < 4 {
-        return true;
-    }
-    let format = number32(file, 0);
-    if format < CURVES {
-        return true;
-    }
-    if SCHEDULES < format {
-        return true;
-    }
-    let sizes = layout_of(format);
-    if file.len() < sizes.header_bytes {
-        return true;
-    }
-    sizes.most_bytes < file.len()
+    let curves = layout_of(CURVES);
+    let schedules = layout_of(SCHEDULES);
+    let one = Sizes {
+        least: curves.header_bytes,
+        most: curves.most_bytes,
+    };
+    let two = Sizes {
+        least: schedules.header_bytes,
+        most: schedules.most_bytes,
+    };
+    not_of_formats(file, one, two)
 }
 
 // Whether a signed number lies outside -most to most.
@@ -164,13 +158,12 @@ pub fn beyond(z: i64, most: u64) -> bool
     high < z
 }
 
-// Ground 9, of a header whose terms are in range.
+// Ground 9, of a header that has the days of a year.
 pub fn header_outside(h: Header) -> bool
-    requires { ⌜ termsOutside (termsIn (h .terms)) ≡ false ⌝ }
+    requires { ⌜ h .days ≤ leapYear ⌝ }
     ensures { λ r. ⌜ r ≡ headerOutside (headerIn h) ⌝ }
 {
-    let terms = h.terms;
-    if INTERVALS_PER_DAY * terms.days <= h.interval {
+    if INTERVALS_PER_DAY * h.days <= h.interval {
         return true;
     }
     if 1 < h.region_wide {

@@ -2,12 +2,15 @@
 
 use words::number32;
 ghost use mathlib.Core.Path.{_≡_};
-ghost use mathlib.Core.Bool.{not, _||_};
+ghost use mathlib.Core.Bool.{not};
 ghost use Prim.Native.Nat.{_+_, _≤_, _<_, _^_};
 ghost use lib.ListN.{length};
-ghost use lib.Dec.{eqb};
-ghost use Rattle.words.specs.Words.{word32};
-ghost use Rattle.words.specs.Grounds.{outside, liesFrom, overlap};
+ghost use Rattle.words.specs.Grounds.{liesFrom, overlap};
+ghost use Rattle.reading.specs.Formats.{formatBytes, sizesOutside, notOfFormats};
+ghost use Rattle.reading.specs.Values.{sizesIn};
+
+// Bytes of the word that says the format.
+const FORMAT_BYTES: usize = 4;
 
 // So many bytes from a byte offset on.
 pub struct Span {
@@ -48,16 +51,37 @@ impl Span {
     }
 }
 
-// Whether a buffer is under `least` or over `most` bytes, or its word 0 is not the format.
-pub fn not_of_format(b: &[u8], least: usize, most: usize, format: u64) -> bool
-    requires { ⌜ 4 ≤ least ⌝ }
-    ensures { λ r. ⌜ r ≡ (outside least most (length (now (b .entry))) || not (eqb (word32 (now (b .entry)) 0) format)) ⌝ }
+// The least and the most bytes of a format.
+pub struct Sizes {
+    pub least: usize,
+    pub most: usize,
+}
+
+impl Sizes {
+    // Whether a length is none that the format has.
+    fn outside(self, n: usize) -> bool
+        ensures { λ r. ⌜ r ≡ sizesOutside (sizesIn self) n ⌝ }
+    {
+        if n < self.least {
+            return true;
+        }
+        self.most < n
+    }
+}
+
+// Whether a buffer is of neither format, or has a length that its format does not.
+pub fn not_of_formats(b: &[u8], one: Sizes, two: Sizes) -> bool
+    requires { ⌜ formatBytes ≤ one .least ⌝ }
+    requires { ⌜ formatBytes ≤ two .least ⌝ }
+    ensures { λ r. ⌜ r ≡ notOfFormats (sizesIn one) (sizesIn two) (now (b .entry)) ⌝ }
 {
-    if b.len() < least {
+    if b.len() < FORMAT_BYTES {
         return true;
     }
-    if most < b.len() {
-        return true;
+    let format = number32(b, 0);
+    match format {
+        1 => one.outside(b.len()),
+        2 => two.outside(b.len()),
+        _ => true,
     }
-    number32(b, 0) != format
 }

@@ -2,7 +2,7 @@
 use borrow.Author.Needs.{needs}
 use Rattle.words.specs.Words.{word32}
 use Rattle.reading.specs.Interval.{headerOf}
-use Rattle.reading.specs.Values.{termsIn, headerIn}
+use Rattle.reading.specs.Values.{headerIn}
 use Rattle.reading.proofs.Parts.{signed-field}
 use Rattle.reading.proofs.header.header_of.Statement.{statement}
 use Rattle.reading.proofs.header.header_of.Tie as tie
@@ -41,17 +41,17 @@ number32-requires-10 : tie.Need-number32-requires-10
 number32-requires-10 c κs = search needs
 
 returns : tie.Need-returns
-unfolding termsIn headerIn headerOf word32
+unfolding headerIn headerOf word32
 returns c =
     let w6 = c .before .before .before .before .before in
     let w5 = w6 .before in
-    let w2 = w5 .before .before .before in
     let imports = c .before .before .before .before .signed in
     let sixth = signed-field (imports .result) (imports .ensures .0) (imports .ensures .1) (w6 .number326 .ensures .0) in
     λ x. record {
-      format = w5 .before .before .number323 .ensures .0 x;
-      interval = w5 .before .number324 .ensures .0 x;
-      terms = record { netCone = w2 .before .number32 .ensures .0 x; days = w2 .number322 .ensures .0 x };
+      format = w5 .before .before .before .before .number32 .ensures .0 x;
+      interval = w5 .before .before .before .number322 .ensures .0 x;
+      netCone = w5 .before .before .number323 .ensures .0 x;
+      days = w5 .before .number324 .ensures .0 x;
       regionWide = w5 .number325 .ensures .0 x;
       imports = sixth x;
       rowCount = c .before .before .before .number327 .ensures .0 x;

@@ -3,33 +3,31 @@ use mathlib.Core.Path.{refl, sym, _∙_}
 use native.Mathlib.Omega.{arith}
 use borrow.Author.Needs.{needs}
 use Rattle.reading.specs.Interval.{mostImports}
-use Rattle.reading.specs.Values.{termsIn, headerIn}
-use Rattle.reading.proofs.Bounds.{terms-in}
+use Rattle.reading.specs.Values.{headerIn}
 use Rattle.reading.proofs.HeaderTests.{interval-late, region-above, imports-left}
 use Rattle.reading.proofs.Parts.{beyond-field}
 use Rattle.reading.proofs.header.header_outside.Statement.{statement}
 use Rattle.reading.proofs.header.header_outside.Tie as tie
 
 mul-if1 : tie.Need-mul-if1
-unfolding termsIn
-mul-if1 c = omega (arith, terms-in _ (c .before .before .pre) .days)
+mul-if1 c = search needs
 
 returns : tie.Need-returns
-unfolding termsIn headerIn
-returns c = sym (interval-late (headerIn (c .before .before .before .before .args .h)) (omega arith))
+unfolding headerIn
+returns c = sym (interval-late (headerIn (c .before .before .before .args .h)) (omega arith))
 
 returns-2 : tie.Need-returns-2
-unfolding termsIn headerIn
-returns-2 c = sym (region-above (headerIn (c .before .before .before .before .before .before .args .h)) (omega arith))
+unfolding headerIn
+returns-2 c = sym (region-above (headerIn (c .before .before .before .before .before .args .h)) (omega arith))
 
 beyond-requires : tie.Need-beyond-requires
 beyond-requires c κs = search needs
 
 returns-3 : tie.Need-returns-3
-unfolding termsIn headerIn
+unfolding headerIn
 returns-3 c =
-    let h = c .before .before .before .before .before .before .before .before .args .h in
-    let small = c .before .struct-told .given .1 .1 .1 .1 .0 .1 in
+    let h = c .before .before .before .before .before .before .before .args .h in
+    let small = c .before .struct-told .given .1 .1 .1 .1 .1 .0 .1 in
     let imports = beyond-field mostImports (h .imports) small (c .beyond .ensures) refl in
     sym (imports-left (headerIn h) (omega arith) (omega arith) ∙ imports)
 
