@@ -24,6 +24,7 @@ use Rattle.reading.specs.Interval.{
   ScheduleWords,
   rowOutside,
   schedulesOutside,
+  curveOutside,
   pointsOutside,
 }
 use Rattle.reading.specs.declared.block.Terms.{Terms as TermsValue}
@@ -132,6 +133,10 @@ pub record Sound (file : List ℕ) (w : RowWords) : Type 0 where
   pub in-range : rowOutside w ≡ false
   pub schedules : schedulesOutside file w ≡ false
   pub points : pointsOutside file w ≡ false
+
+-- a schedule whose points ground 14 does not refuse
+pub record SoundCurve (file : List ℕ) (s : ScheduleWords) : Type 0 where
+  pub points : curveOutside file s ≡ false
 
 -- a file whose rows grounds 13, 18 and 14 do not refuse
 pub record Scanned (file : List ℕ) : Type 0 where
