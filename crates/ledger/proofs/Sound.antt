@@ -22,6 +22,7 @@ use Rattle.reading.specs.Block.{
   blockOf,
   notABlock,
   termsOutside,
+  yearUnknown,
   idsMisplaced,
   idsOutOfOrder,
 }
@@ -42,6 +43,7 @@ use Rattle.ledger.specs.Ledger.{
   accountCount,
   ledgerOf,
   idsIn,
+  ledgerTermsOutside,
   accountOutside,
   doesNotClose,
   notALedger,
@@ -62,8 +64,9 @@ ground-zero g ground taken refused same e = by (eqb g 0) refl e
 
 -- a block and a ledger buffer that opening accepts
 pub record BlockAccepted (block ledger : List ℕ) : Type 0 where
-  pub header : blockHeaderBytes ≤ length block
+  pub header : blockHeaderBytes (blockWords block .format) ≤ length block
   pub terms : termsOutside (blockOf block .terms) ≡ false
+  pub year : yearUnknown (blockWords block) ≡ false
   pub some : 1 ≤ blockWords block .idCount
   pub few : blockWords block .idCount ≤ mostIds
   pub placed : blockWords block .idsOffset + idBytes * blockWords block .idCount ≤ length block
@@ -87,6 +90,7 @@ block-accepted block ledger e =
     record {
       header = block-has-header block g1;
       terms = search facts depth 12;
+      year = search facts depth 12;
       some = ids-few block g3 .0;
       few = ids-few block g3 .1;
       placed = search facts depth 12;
@@ -105,9 +109,14 @@ pub account-in : (t : Terms) (a : Account) → accountOutside t a ≡ false → 
 unfolding accountOutside
 account-in t a e = record { largest = search facts; charged = search facts; credited = search facts }
 
+-- terms that a ledger may have are in range
+pub terms-of-ledger : (t : Terms) → ledgerTermsOutside t ≡ false → termsOutside t ≡ false
+unfolding ledgerTermsOutside
+terms-of-ledger t e = search facts
+
 -- a ledger that ground 6 does not refuse
 pub record LedgerIn (l : Ledger) : Type 0 where
-  pub terms : termsOutside (l .terms) ≡ false
+  pub terms : ledgerTermsOutside (l .terms) ≡ false
   pub ids : idsOutOfOrder (idsIn l) ≡ false
   pub some : 1 ≤ length (l .accounts)
   pub few : length (l .accounts) ≤ mostIds
@@ -179,7 +188,8 @@ ledger-read b s e says =
     let said = said b s says in
     let range : outside 1 mostIds (accountCount b) ≡ false = search facts depth 20 in
     let room : ledgerBytes (accountCount b) ≤ length b = search facts depth 20 in
-    let terms : termsOutside (ledgerOf b .terms) ≡ false = search facts depth 20 in
+    let outside : ledgerTermsOutside (ledgerOf b .terms) ≡ false = search facts depth 20 in
+    let terms = terms-of-ledger (ledgerOf b .terms) outside in
     let earliest : ledgerOf b .earliest ≤ intervalsPerDay * ledgerOf b .terms .days = search facts depth 20 in
     let carried : ledgerOf b .carried ≤ mostCents = search facts depth 20 in
     record {
