@@ -17,6 +17,7 @@ use Rattle.reading.specs.Block.{
   idsMisplaced,
 }
 use Rattle.reading.specs.Interval.{
+  curvesFormat,
   layoutOf,
   fileLayout,
   pointBytes,
@@ -36,6 +37,7 @@ use Rattle.reading.specs.Interval.{
 use Rattle.reading.specs.Values.{termsIn, blockIn, headerIn, BlockRead, Listed, HeaderRead, Tabled}
 use Rattle.reading.specs.declared.block.Block.{Block as BlockValue}
 use Rattle.reading.specs.declared.header.Header.{Header as HeaderValue}
+use Rattle.reading.proofs.Layouts.{entry-lies}
 use Rattle.reading.proofs.Bounds.{length-ids}
 use Rattle.reading.proofs.SpanTests.{has-least, stretch-lies}
 use Rattle.reading.proofs.Tables.{none-place}
@@ -89,6 +91,11 @@ tables-lie from end rows points schedules e =
     table-lies : (from end : ℕ) (t : Table) → leaves from end t ≡ false → t .at + t .bytes ≤ end
     table-lies from end t e = stretch-lies from end (t .at) (t .bytes) e
 
+-- a number that is the file's format, with the words of its header
+pub format-read : (f : List ℕ) {format : ℕ} → format ≡ headerOf f .format → fileLayout f .headerBytes ≤ length f
+    → (layoutOf format .headerBytes ≤ length f) × (format ≡ headerOf f .format)
+format-read f is long = (subst (λ n. layoutOf n .headerBytes ≤ length f) (sym is) long, is)
+
 -- a value of a file's header
 module _ {f : List ℕ} {h : HeaderValue} where
   -- that says its words is read from it, where ground 7 does not refuse the file
@@ -122,6 +129,16 @@ module _ {f : List ℕ} {h : HeaderValue} where
   unfolding headerIn
   format-said r = ap (λ h. h .format) (r .says)
 
+  -- which is not 1 where the header's is not
+  pub other-said : HeaderRead f h → (h .format ≡ curvesFormat → ⊥) → headerOf f .format ≡ curvesFormat → ⊥
+  other-said r other e = other (format-said r ∙ e)
+
+  -- row i, of so many bytes as the format says, lies within the file
+  pub row-lies : Tabled f h → (bytes : ℕ) → bytes ≡ layoutOf (h .format) .rowBytes → (i : ℕ) → i < h .rows
+      → h .«rows_at» + bytes * i + bytes ≤ length f
+  row-lies t bytes is i below =
+      rw is (entry-lies (layoutOf (h .format) .rowBytes) (h .rows) (h .«rows_at») (length f) i (t .rows-lie) below)
+
   -- has the file's number of rows
   pub row-count : HeaderRead f h → h .rows ≡ headerOf f .rowCount
   unfolding headerIn
@@ -131,6 +148,11 @@ module _ {f : List ℕ} {h : HeaderValue} where
   pub point-count : HeaderRead f h → h .points ≡ headerOf f .pointCount
   unfolding headerIn
   point-count r = ap (λ h. h .pointCount) (r .says)
+
+  -- and of schedules
+  pub schedule-count : HeaderRead f h → h .schedules ≡ headerOf f .scheduleCount
+  unfolding headerIn
+  schedule-count r = ap (λ h. h .scheduleCount) (r .says)
 
   -- below the number of rows, the rows from i on are the one that is read there and those from i + 1 on
   pub next-row : HeaderRead f h → (i : ℕ) {w : RowWords} → i < h .rows → w ≡ rowWordsAt f i

@@ -10,6 +10,7 @@ use lib.Dec.{ltb, leb}
 use Rattle.words.specs.Lists.{any}
 use Rattle.words.specs.Words.{entries}
 use Rattle.words.specs.Grounds.{outside}
+use Rattle.words.proofs.Lists.{any-turn}
 use Rattle.words.proofs.Tests.{lies-below, lies-above, lies-inside, facts}
 use Rattle.reading.specs.Interval.{
   curvesFormat,
@@ -49,9 +50,9 @@ module _ (s : ScheduleWords) where
   kind-above h = lies-above market cost (s .kind) h
 
   -- from market to cost it is one
-  pub kind-known : market ≤ s .kind → s .kind ≤ cost → kindOutside s ≡ false
+  pub kind-within : market ≤ s .kind → s .kind ≤ cost → kindOutside s ≡ false
   unfolding kindOutside
-  kind-known low high = lies-inside market cost (s .kind) low high
+  kind-within low high = lies-inside market cost (s .kind) low high
 
 -- so many schedules of a file's table, from one of them on
 module _ (f : List ℕ) (first count : ℕ) where
@@ -82,6 +83,16 @@ module _ (f : List ℕ) (first count : ℕ) where
   pub schedules-end : (k : ℕ) → count ≤ k → tableLeft k ≡ []
   unfolding tableLeft
   schedules-end = table-end scheduleBytes scheduleWords count (drop place f)
+
+  -- whether one of them is of no kind is told by the next, read where the header says, or by those after it
+  pub kinds-turn : (h : Header) → h ≡ headerOf f → (k : ℕ) (s : ScheduleWords)
+      → s ≡ scheduleWords (drop (h .schedulesOffset + scheduleBytes * (first + k)) f)
+      → any kindOutside (tableSchedules f first count) ≡ any kindOutside (tableLeft k) → k < count
+      → (told : Bool) → kindOutside s ≡ told
+      → any kindOutside (tableSchedules f first count) ≡ (told || any kindOutside (tableLeft (k + 1)))
+  kinds-turn h says k s is left below told e =
+      let here = is ∙ ap (λ h. scheduleWords (drop (h .schedulesOffset + scheduleBytes * (first + k)) f)) says in
+      any-turn kindOutside told left (schedules-turn k below here) e
 
 -- the row of these words in a file whose rows name schedules
 module _ (f : List ℕ) (w : RowWords) (two : headerOf f .format ≡ curvesFormat → ⊥) where

@@ -4,14 +4,17 @@ use mathlib.Core.Path.{_≡_, refl, sym, ap, _∙_}
 use mathlib.Core.List.{List, [], _∷_}
 use native.Mathlib.Numerals.{add-one}
 use native.Mathlib.Omega.{arith}
-use borrow.Author.Tests.{eq-eqb, ne-eqb}
+use mathlib.Core.Bool.{false}
+use borrow.Author.Tests.{eq-eqb, ne-eqb, lt-ltb, ltb-false}
 use lib.ListN.{length, drop, getD, drop-of-length-le}
 use lib.Seq.{drop-cons, drop-drop}
+use Rattle.words.specs.Words.{entries}
 use Rattle.words.proofs.Words.{length-entries, entry-at}
 use Rattle.reading.specs.Interval.{
   curvesFormat,
   market,
   scheduleBytes,
+  Header,
   RowWords,
   ScheduleWords,
   headerOf,
@@ -21,8 +24,9 @@ use Rattle.reading.specs.Interval.{
   schedulesNamed,
   noSchedule,
   scheduleAt,
+  schedulesBeyond,
 }
-use Rattle.reading.proofs.Layouts.{in-schedules}
+use Rattle.reading.proofs.Layouts.{in-schedules, in-either}
 
 -- the row of these words in a file f
 module _ (f : List ℕ) (w : RowWords) where
@@ -64,6 +68,20 @@ module _ (f : List ℕ) (w : RowWords) where
           let first : k ≡ 0 = omega (arith, ap length one) in
           rw first (ap (λ l. getD l 0 noSchedule) one)
 
+  -- in either format it names none where its number is 0
+  pub named-nothing : w .count ≡ 0 → schedulesNamed f w ≡ []
+  unfolding schedulesNamed asSchedule tableSchedules entries
+  named-nothing none = rw none (in-either (λ l. l ≡ []) refl refl (headerOf f .format))
+
+  -- and some where it is above 0
+  pub named-something : 0 < w .count → 0 < length (schedulesNamed f w)
+  unfolding schedulesNamed asSchedule tableSchedules
+  named-something some =
+      let table = length-entries scheduleBytes scheduleWords (w .count) (drop (headerOf f .schedulesOffset + scheduleBytes * w .first) f) in
+      let own : 0 < length (asSchedule w) = rw (ne-eqb (w .count) 0 (λ e. omega arith)) (omega arith) in
+      let listed : 0 < length (tableSchedules f (w .first) (w .count)) = omega (arith, table) in
+      in-either (λ l. 0 < length l) own listed (headerOf f .format)
+
   -- in format 2 schedule k stands in the table so many after the first
   pub at-table : (headerOf f .format ≡ curvesFormat → ⊥) → (k : ℕ) → k < length (schedulesNamed f w)
       → scheduleAt f w k ≡ scheduleWords (drop (headerOf f .schedulesOffset + scheduleBytes * (w .first + k)) f)
@@ -86,3 +104,11 @@ module _ (f : List ℕ) (w : RowWords) where
   -- from their number on, none is left
   pub none-left : (k : ℕ) → length (schedulesNamed f w) ≤ k → drop k (schedulesNamed f w) ≡ []
   none-left k beyond = drop-of-length-le (schedulesNamed f w) {i = k} beyond
+
+-- schedules that do not reach beyond the table end within it, if the rows name schedules and this one names any
+pub schedules-end : (h : Header) (w : RowWords) → (h .format ≡ curvesFormat → ⊥) → schedulesBeyond h w ≡ false → 0 < w .count
+    → w .first + w .count ≤ h .scheduleCount
+unfolding schedulesBeyond
+schedules-end h w other e some =
+    ltb-false (h .scheduleCount) (w .first + w .count)
+    (rw (ne-eqb (h .format) curvesFormat other, lt-ltb 0 (w .count) some) at e)

@@ -18,10 +18,9 @@ use crate::rows::schedules;
 use crate::rows::table_schedule;
 ghost use mathlib.Core.Path.{_≡_};
 ghost use mathlib.Core.List.{_∷_, []};
-ghost use mathlib.Core.Bool.{false};
 ghost use Prim.Native.Nat.{_+_, _*_, _≤_};
 ghost use lib.ListN.{length};
-ghost use lib.Dec.{ltb, eqb};
+ghost use lib.Dec.{ltb};
 ghost use Rattle.words.specs.Lists.{any};
 ghost use Rattle.words.specs.Grounds.{answered};
 ghost use Rattle.reading.specs.Interval.{
@@ -136,7 +135,7 @@ fn kinds_outside(file: &[u8], h: Header, first: usize, count: usize) -> bool
 // Ground 18, of one row of a file whose rows name schedules.
 fn schedules_outside(file: &[u8], h: Header, row: Row) -> bool
     requires { ⌜ Tabled (now file) h ⌝ }
-    requires { ⌜ eqb (h .format) curvesFormat ≡ false ⌝ }
+    requires { ⌜ (h .format ≡ curvesFormat → ⊥) ⌝ }
     ensures { λ r. ⌜ r ≡ schedulesOutside (now (file .entry)) (rowIn row) ⌝ }
 {
     // Without schedules the word that names the first is free.

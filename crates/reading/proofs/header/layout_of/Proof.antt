@@ -1,15 +1,18 @@
+-- `reading::header::layout_of` meets its contract. By the format.
+use mathlib.Core.Path.{sym}
+use Rattle.reading.specs.Interval.{layoutOf}
+use Rattle.reading.specs.Values.{layoutIn}
+use Rattle.reading.proofs.Layouts.{in-curves, in-schedules}
 use Rattle.reading.proofs.header.layout_of.Statement.{statement}
 use Rattle.reading.proofs.header.layout_of.Tie as tie
-use Rattle.reading.proofs.header.layout_of.Reads as reads
-use Rattle.reading.proofs.header.layout_of.Lts as lts
 
--- src/header.rt:53:1
 returns : tie.Need-returns
-returns c = ?
+unfolding layoutIn layoutOf
+returns c = sym (in-curves _ _ (c .match .keys1))
 
--- src/header.rt:53:1
 returns-2 : tie.Need-returns-2
-returns-2 c = ?
+unfolding layoutIn layoutOf
+returns-2 c = sym (in-schedules _ _ (c .match .rest .1))
 
 pub layout-of-spec : {M : Type 1} → statement M
 layout-of-spec = tie.close (tie.spec returns returns-2)

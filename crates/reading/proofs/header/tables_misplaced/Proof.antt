@@ -1,74 +1,50 @@
--- `reading::header::tables_misplaced` meets its contract. Each test is one of the ground.
-use Prim.Native.Nat.{_<_, _^_}
-use mathlib.Core.Path.{sym, _∙_}
-use native.Mathlib.Omega.{arith}
 use borrow.Author.Needs.{needs}
-use lib.ListN.{length}
-use Rattle.reading.specs.Values.{headerIn}
-use Rattle.reading.proofs.HeaderTests.{rows-none, rows-many, points-many, rows-leave, points-leave, tables-left}
-use Rattle.reading.proofs.SpanTests.{stretch-lies, ends-below}
 use Rattle.reading.proofs.header.tables_misplaced.Statement.{statement}
 use Rattle.reading.proofs.header.tables_misplaced.Tie as tie
+use Rattle.reading.proofs.header.tables_misplaced.Reads as reads
+use Rattle.reading.proofs.header.tables_misplaced.Lts as lts
+use Rattle.reading.proofs.header.layout_of.Reads as layout-of-reads
+use Rattle.reading.proofs.header.places_outside.Reads as places-outside-reads
 
+-- src/header.rt:203:9
 returns : tie.Need-returns
-unfolding headerIn
-returns c = let s = c .before .before .before in sym (rows-none _ (headerIn (s .args .h)) (s .pre .says) (omega arith))
+returns c = ?
 
+-- src/header.rt:206:9
 returns-2 : tie.Need-returns-2
-unfolding headerIn
-returns-2 c =
-    let s = c .before .before .before .before .before in
-    sym (rows-many _ (headerIn (s .args .h)) (s .pre .says) (omega arith))
+returns-2 c = ?
 
+-- src/header.rt:209:9
 returns-3 : tie.Need-returns-3
-unfolding headerIn
-returns-3 c =
-    let s = c .before .before .before .before .before .before .before in
-    sym (points-many _ (headerIn (s .args .h)) (s .pre .says) (omega arith))
+returns-3 c = ?
 
-mul-leaves : tie.Need-mul-leaves
-mul-leaves c = search needs
-
-leaves-requires : tie.Need-leaves-requires
-leaves-requires c κs = search needs
-
+-- src/header.rt:212:9
 returns-4 : tie.Need-returns-4
-unfolding headerIn
-returns-4 c =
-    let s = c .before .before .before .before .before .before .before .before .before .before in
-    sym (rows-leave _ (headerIn (s .args .h)) (s .pre .says) (sym (c .before .leaves .ensures) ∙ c .if4 .taken))
+returns-4 c = ?
 
-mul-leaves-2 : tie.Need-mul-leaves-2
-mul-leaves-2 c = search needs
+-- src/header.rt:214:9
+layout-of-requires : tie.Need-layout-of-requires
+layout-of-requires c κs = search needs
 
-leaves-requires-2 : tie.Need-leaves-requires-2
-leaves-requires-2 c κs = search needs
+-- src/header.rt:217:16
+mul-places-outside : tie.Need-mul-places-outside
+mul-places-outside c = ?
 
+-- src/header.rt:221:16
+mul-places-outside-2 : tie.Need-mul-places-outside-2
+mul-places-outside-2 c = search needs
+
+-- src/header.rt:225:16
+mul-places-outside-3 : tie.Need-mul-places-outside-3
+mul-places-outside-3 c = search needs
+
+-- src/header.rt:227:5
+places-outside-requires : tie.Need-places-outside-requires
+places-outside-requires c κs = search needs
+
+-- src/header.rt:198:1
 returns-5 : tie.Need-returns-5
-unfolding headerIn
-returns-5 c =
-    let s = c .before .before .before .before .before .before .before .before .before .before .before .before .before in
-    sym (points-leave _ (headerIn (s .args .h)) (s .pre .says) (sym (c .before .leaves2 .ensures) ∙ c .if5 .taken))
-
-overlaps-requires : tie.Need-overlaps-requires
-overlaps-requires c κs =
-    let e4 = c .before .before .before in
-    let rows = stretch-lies _ _ _ _ (sym (e4 .before .leaves .ensures) ∙ e4 .if4 .left) in
-    let points = stretch-lies _ _ _ _ (sym (c .before .leaves2 .ensures) ∙ c .if5 .left) in
-    let s = e4 .before .before .before .before .before .before .before .before .before .before in
-    let long : length (s .args .file .now) < 2 ^ 64 = omega arith in
-    (ends-below _ _ _ rows long, ends-below _ _ _ points long)
-
-returns-6 : tie.Need-returns-6
-unfolding headerIn
-returns-6 c =
-    let e5 = c .before in
-    let e4 = e5 .before .before .before in
-    let s = e4 .before .before .before .before .before .before .before .before .before .before in
-    let rows-lie = sym (e4 .before .leaves .ensures) ∙ e4 .if4 .left in
-    let points-lie = sym (e5 .before .leaves2 .ensures) ∙ e5 .if5 .left in
-    let left = tables-left _ (headerIn (s .args .h)) (s .pre .says) in
-    c .overlaps .ensures ∙ sym (left (omega arith) (omega arith) (omega arith) rows-lie points-lie)
+returns-5 c = ?
 
 pub tables-misplaced-spec : {M : Type 1} → statement M
 tables-misplaced-spec =
@@ -77,11 +53,10 @@ tables-misplaced-spec =
     returns
     returns-2
     returns-3
-    mul-leaves
-    leaves-requires
     returns-4
-    mul-leaves-2
-    leaves-requires-2
-    returns-5
-    overlaps-requires
-    returns-6)
+    layout-of-requires
+    mul-places-outside
+    mul-places-outside-2
+    mul-places-outside-3
+    places-outside-requires
+    returns-5)

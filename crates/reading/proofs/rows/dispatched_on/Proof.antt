@@ -1,19 +1,30 @@
+-- `reading::rows::dispatched_on` meets its contract. The one that word 14 says, if the row has any.
+use mathlib.Core.Path.{sym, ap, _∙_}
+use native.Mathlib.Omega.{arith}
 use borrow.Author.Needs.{needs}
+use lib.ListN.{getD}
+use Rattle.reading.specs.Interval.{noSchedule, scheduleAt}
+use Rattle.reading.specs.Values.{rowIn, scheduleIn}
+use Rattle.reading.proofs.Schedules.{named-nothing, named-something}
+use Rattle.reading.proofs.SoundRows.{schedules-lie, dispatched-among}
 use Rattle.reading.proofs.rows.dispatched_on.Statement.{statement}
 use Rattle.reading.proofs.rows.dispatched_on.Tie as tie
-use Rattle.reading.proofs.rows.dispatched_on.Reads as reads
-use Rattle.reading.proofs.rows.dispatched_on.Lts as lts
-use Rattle.reading.proofs.rows.schedule_at.Reads as schedule-at-reads
 
--- src/rows.rt:188:9
 returns : tie.Need-returns
-returns c = ?
+unfolding rowIn scheduleIn scheduleAt
+returns c =
+    let s = c .before .before .before in
+    let none = named-nothing (s .args .file .now) (rowIn (s .args .row)) (omega arith) in
+    sym (ap (λ l. getD l (s .args .row .dispatched) noSchedule) none)
 
--- src/rows.rt:194:5
 schedule-at-requires : tie.Need-schedule-at-requires
-schedule-at-requires c κs = ?
+unfolding rowIn
+schedule-at-requires c κs =
+    let s = c .before .before .before in
+    let f = s .args .file .now in
+    let w = rowIn (s .args .row) in
+    (s .pre .0, (schedules-lie f w (s .pre .1) (s .pre .0 .read), dispatched-among f w (s .pre .1) (named-something f w (omega arith))))
 
--- src/rows.rt:182:1
 returns-2 : tie.Need-returns-2
 returns-2 c = search needs
 

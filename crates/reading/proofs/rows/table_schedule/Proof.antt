@@ -1,41 +1,47 @@
+-- `reading::rows::table_schedule` meets its contract. Its three words, read where the schedule stands.
+use Prim.Native.Nat.{_*_, _+_}
+use mathlib.Core.Path.{_≡_, sym, ap, _∙_}
+use native.Mathlib.Omega.{arith}
 use borrow.Author.Needs.{needs}
+use Rattle.words.specs.Words.{numberAt}
+use Rattle.reading.specs.Interval.{scheduleBytes, scheduleWords}
+use Rattle.reading.specs.Values.{scheduleIn}
+use Rattle.reading.proofs.Parts.{word-part}
 use Rattle.reading.proofs.rows.table_schedule.Statement.{statement}
 use Rattle.reading.proofs.rows.table_schedule.Tie as tie
-use Rattle.reading.proofs.rows.table_schedule.Reads as reads
-use Rattle.reading.proofs.rows.table_schedule.Lts as lts
-use Rattle.words.proofs.number32.Reads as number32-reads
 
--- src/rows.rt:155:31
 mul-at : tie.Need-mul-at
 mul-at c = search needs
 
--- src/rows.rt:155:14
 add-at : tie.Need-add-at
 add-at c = search needs
 
--- src/rows.rt:157:15
 number32-requires : tie.Need-number32-requires
 number32-requires c κs = search needs
 
--- src/rows.rt:158:31
 add-number32 : tie.Need-add-number32
 add-number32 c = search needs
 
--- src/rows.rt:158:16
 number32-requires-2 : tie.Need-number32-requires-2
 number32-requires-2 c κs = search needs
 
--- src/rows.rt:159:32
 add-number32-2 : tie.Need-add-number32-2
 add-number32-2 c = search needs
 
--- src/rows.rt:159:17
 number32-requires-3 : tie.Need-number32-requires-3
 number32-requires-3 c κs = search needs
 
--- src/rows.rt:150:1
 returns : tie.Need-returns
-returns c = ?
+unfolding scheduleIn scheduleWords
+returns c =
+    let s = c .before .before .before .before .before in
+    let f = s .args .file .now in
+    let at = s .args .h .«schedules_at» + scheduleBytes * s .args .n in
+    let here : at ≡ at + 4 * 0 = omega arith in
+    let kind = c .before .before .number32 .ensures .0 ∙ ap (numberAt 4 f) here ∙ sym (word-part at f 0) in
+    let first = c .before .number322 .ensures .0 ∙ sym (word-part at f 1) in
+    let points = c .number323 .ensures .0 ∙ sym (word-part at f 2) in
+    λ x. record { kind = kind x; first = first x; count = points x }
 
 pub table-schedule-spec : {M : Type 1} → statement M
 table-schedule-spec =

@@ -1,187 +1,681 @@
--- `reading::scan::scan` meets its contract. Left to test are the rows from i on for ground 13,
--- then for 14 those from k on, and in row k the points from j on.
-use Prim.Native.Nat.{_+_, _-_, _≤_}
-use mathlib.Core.Path.{_≡_, sym, ap, _∙_}
-use mathlib.Core.Bool.{false, _||_}
-use native.Mathlib.Omega.{arith}
-use borrow.Author.Needs.{needs}
-use Rattle.words.specs.Lists.{any}
-use Rattle.words.proofs.Lists.{any-end}
-use Rattle.reading.specs.Interval.{rowOutside, curveMisplaced, pointsOutside}
-use Rattle.reading.specs.Values.{rowIn}
-use Rattle.reading.proofs.Facts.{row-count, point-count}
-use Rattle.reading.proofs.RowsLeft.{curveLeft, words-start, words-end}
-use Rattle.reading.proofs.ScanTests.{
-  outsideSome,
-  outsideFrom,
-  faultySome,
-  faultyFrom,
-  row-turn,
-  row-fails,
-  all-pass,
-  curve-fails,
-  curve-begins,
-  point-fails,
-  point-passes,
-  curve-passes,
-}
 use Rattle.reading.proofs.scan.scan.Statement.{statement}
 use Rattle.reading.proofs.scan.scan.Tie as tie
+use Rattle.reading.proofs.scan.scan.Reads as reads
+use Rattle.reading.proofs.scan.scan.Lts as lts
+use Rattle.reading.proofs.rows.curve.Reads as curve-reads
+use Rattle.reading.proofs.rows.row_at.Reads as row-at-reads
+use Rattle.reading.proofs.rows.schedule_at.Reads as schedule-at-reads
+use Rattle.reading.proofs.rows.schedules.Reads as schedules-reads
+use Rattle.reading.proofs.scan.curve_misplaced.Reads as curve-misplaced-reads
+use Rattle.reading.proofs.scan.point_refused.Reads as point-refused-reads
+use Rattle.reading.proofs.scan.row_outside.Reads as row-outside-reads
+use Rattle.reading.proofs.scan.rows_naming.Reads as rows-naming-reads
+use Rattle.reading.proofs.scan.schedules_outside.Reads as schedules-outside-reads
 
 abbrev Inv-loop : tie.InvT-loop
-Inv-loop file h i₀ i = (i ≤ h .rows) × (outsideSome file ≡ outsideFrom file i)
+Inv-loop file h naming i₀ i = ?
 
 abbrev μ-loop : tie.MeasureT-loop
-μ-loop file h i₀ i = h .rows - i
-
-abbrev Inv-loop3 : tie.InvT-loop3
-Inv-loop3 file h i k row points j₀ j =
-    (j ≤ row .count) × (faultySome file ≡ (curveLeft (row .count) points j || faultyFrom file (k + 1)))
-
-abbrev μ-loop3 : tie.MeasureT-loop3
-μ-loop3 file h i k row points j₀ j = row .count - j
+μ-loop file h naming i₀ i = ?
 
 abbrev Inv-loop2 : tie.InvT-loop2
-Inv-loop2 file h i k₀ k = (k ≤ h .rows) × (outsideSome file ≡ false) × (faultySome file ≡ faultyFrom file k)
+Inv-loop2 file h naming i m₀ m = ?
 
 abbrev μ-loop2 : tie.MeasureT-loop2
-μ-loop2 file h i k₀ k = h .rows - k
+μ-loop2 file h naming i m₀ m = ?
+
+abbrev Inv-loop5 : tie.InvT-loop5
+Inv-loop5 file h naming i m n row count k s points j₀ j = ?
+
+abbrev μ-loop5 : tie.MeasureT-loop5
+μ-loop5 file h naming i m n row count k s points j₀ j = ?
+
+abbrev Inv-loop4 : tie.InvT-loop4
+Inv-loop4 file h naming i m n row count k₀ k = ?
+
+abbrev μ-loop4 : tie.MeasureT-loop4
+μ-loop4 file h naming i m n row count k₀ k = ?
+
+abbrev Inv-loop3 : tie.InvT-loop3
+Inv-loop3 file h naming i m n₀ n = ?
+
+abbrev μ-loop3 : tie.MeasureT-loop3
+μ-loop3 file h naming i m n₀ n = ?
 
 abbrev Inv-scan : tie.InvT-scan
-Inv-scan file h = Unit {0}
+Inv-scan file h naming = ?
 
 abbrev μ-scan : tie.MeasureT-scan
-μ-scan file h = 0
+μ-scan file h naming = ?
 
-scan-holds : tie.Need-scan-holds Inv-loop μ-loop Inv-loop3 μ-loop3 Inv-loop2 μ-loop2 Inv-scan μ-scan
-scan-holds c = tt
+-- src/scan.rt:220:9
+rows-naming-requires :
+    tie.Need-rows-naming-requires
+    Inv-loop
+    μ-loop
+    Inv-loop2
+    μ-loop2
+    Inv-loop5
+    μ-loop5
+    Inv-loop4
+    μ-loop4
+    Inv-loop3
+    μ-loop3
+    Inv-scan
+    μ-scan
+rows-naming-requires c κs = ?
 
-loop-holds : tie.Need-loop-holds Inv-loop μ-loop Inv-loop3 μ-loop3 Inv-loop2 μ-loop2 Inv-scan μ-scan
-loop-holds c = (omega arith, ap (any rowOutside) (words-start _))
+-- src/scan.rt:221:9
+scan-holds :
+    tie.Need-scan-holds
+    Inv-loop
+    μ-loop
+    Inv-loop2
+    μ-loop2
+    Inv-loop5
+    μ-loop5
+    Inv-loop4
+    μ-loop4
+    Inv-loop3
+    μ-loop3
+    Inv-scan
+    μ-scan
+scan-holds c = ?
 
-row-at-requires : tie.Need-row-at-requires Inv-loop μ-loop Inv-loop3 μ-loop3 Inv-loop2 μ-loop2 Inv-scan μ-scan
-row-at-requires c κs = search needs
+-- src/scan.rt:223:9
+loop-holds :
+    tie.Need-loop-holds
+    Inv-loop
+    μ-loop
+    Inv-loop2
+    μ-loop2
+    Inv-loop5
+    μ-loop5
+    Inv-loop4
+    μ-loop4
+    Inv-loop3
+    μ-loop3
+    Inv-scan
+    μ-scan
+loop-holds c = ?
 
-row-outside-requires : tie.Need-row-outside-requires Inv-loop μ-loop Inv-loop3 μ-loop3 Inv-loop2 μ-loop2 Inv-scan μ-scan
-row-outside-requires c κs = search needs
+-- src/scan.rt:224:28
+row-at-requires :
+    tie.Need-row-at-requires
+    Inv-loop
+    μ-loop
+    Inv-loop2
+    μ-loop2
+    Inv-loop5
+    μ-loop5
+    Inv-loop4
+    μ-loop4
+    Inv-loop3
+    μ-loop3
+    Inv-scan
+    μ-scan
+row-at-requires c κs = ?
 
-add-i : tie.Need-add-i Inv-loop μ-loop Inv-loop3 μ-loop3 Inv-loop2 μ-loop2 Inv-scan μ-scan
-add-i c = search needs
+-- src/scan.rt:224:16
+row-outside-requires :
+    tie.Need-row-outside-requires
+    Inv-loop
+    μ-loop
+    Inv-loop2
+    μ-loop2
+    Inv-loop5
+    μ-loop5
+    Inv-loop4
+    μ-loop4
+    Inv-loop3
+    μ-loop3
+    Inv-scan
+    μ-scan
+row-outside-requires c κs = ?
 
-loop-less : tie.Need-loop-less Inv-loop μ-loop Inv-loop3 μ-loop3 Inv-loop2 μ-loop2 Inv-scan μ-scan
-loop-less c = search needs
+-- src/scan.rt:227:13
+add-i :
+    tie.Need-add-i
+    Inv-loop
+    μ-loop
+    Inv-loop2
+    μ-loop2
+    Inv-loop5
+    μ-loop5
+    Inv-loop4
+    μ-loop4
+    Inv-loop3
+    μ-loop3
+    Inv-scan
+    μ-scan
+add-i c = ?
 
-loop-again : tie.Need-loop-again Inv-loop μ-loop Inv-loop3 μ-loop3 Inv-loop2 μ-loop2 Inv-scan μ-scan
-loop-again c =
-    let l = c .before .before .before .before .before in
-    let s = l .before .before .before in
-    let f = s .args .file .now in
-    let rows = row-count (s .pre .read) in
-    let told = sym (c .before .row-outside .ensures) ∙ c .if2 .left in
-    let row = c .before .before .row-at .ensures in
-    (omega arith, row-turn f (l .loop .i) _ row (l .loop .inv .1) false (omega (arith, rows)) told)
+-- src/scan.rt:223:9
+loop-less :
+    tie.Need-loop-less
+    Inv-loop
+    μ-loop
+    Inv-loop2
+    μ-loop2
+    Inv-loop5
+    μ-loop5
+    Inv-loop4
+    μ-loop4
+    Inv-loop3
+    μ-loop3
+    Inv-scan
+    μ-scan
+loop-less c = ?
 
-loop2-holds : tie.Need-loop2-holds Inv-loop μ-loop Inv-loop3 μ-loop3 Inv-loop2 μ-loop2 Inv-scan μ-scan
-loop2-holds c =
-    let l = c .before .before in
-    let s = l .before .before .before in
-    let f = s .args .file .now in
-    let none = words-end f (l .loop .i) (omega (arith, row-count (s .pre .read))) in
-    (omega arith, any-end rowOutside (l .loop .inv .1) none, ap (any (pointsOutside f)) (words-start f))
+-- src/scan.rt:223:9
+loop-again :
+    tie.Need-loop-again
+    Inv-loop
+    μ-loop
+    Inv-loop2
+    μ-loop2
+    Inv-loop5
+    μ-loop5
+    Inv-loop4
+    μ-loop4
+    Inv-loop3
+    μ-loop3
+    Inv-scan
+    μ-scan
+loop-again c = ?
 
-row-at-requires-2 : tie.Need-row-at-requires-2 Inv-loop μ-loop Inv-loop3 μ-loop3 Inv-loop2 μ-loop2 Inv-scan μ-scan
-row-at-requires-2 c κs = search needs
+-- src/scan.rt:230:9
+loop2-holds :
+    tie.Need-loop2-holds
+    Inv-loop
+    μ-loop
+    Inv-loop2
+    μ-loop2
+    Inv-loop5
+    μ-loop5
+    Inv-loop4
+    μ-loop4
+    Inv-loop3
+    μ-loop3
+    Inv-scan
+    μ-scan
+loop2-holds c = ?
 
+-- src/scan.rt:231:43
+row-at-requires-2 :
+    tie.Need-row-at-requires-2
+    Inv-loop
+    μ-loop
+    Inv-loop2
+    μ-loop2
+    Inv-loop5
+    μ-loop5
+    Inv-loop4
+    μ-loop4
+    Inv-loop3
+    μ-loop3
+    Inv-scan
+    μ-scan
+row-at-requires-2 c κs = ?
+
+-- src/scan.rt:231:16
+schedules-outside-requires :
+    tie.Need-schedules-outside-requires
+    Inv-loop
+    μ-loop
+    Inv-loop2
+    μ-loop2
+    Inv-loop5
+    μ-loop5
+    Inv-loop4
+    μ-loop4
+    Inv-loop3
+    μ-loop3
+    Inv-scan
+    μ-scan
+schedules-outside-requires c κs = ?
+
+-- src/scan.rt:234:13
+add-m :
+    tie.Need-add-m
+    Inv-loop
+    μ-loop
+    Inv-loop2
+    μ-loop2
+    Inv-loop5
+    μ-loop5
+    Inv-loop4
+    μ-loop4
+    Inv-loop3
+    μ-loop3
+    Inv-scan
+    μ-scan
+add-m c = ?
+
+-- src/scan.rt:230:9
+loop2-less :
+    tie.Need-loop2-less
+    Inv-loop
+    μ-loop
+    Inv-loop2
+    μ-loop2
+    Inv-loop5
+    μ-loop5
+    Inv-loop4
+    μ-loop4
+    Inv-loop3
+    μ-loop3
+    Inv-scan
+    μ-scan
+loop2-less c = ?
+
+-- src/scan.rt:230:9
+loop2-again :
+    tie.Need-loop2-again
+    Inv-loop
+    μ-loop
+    Inv-loop2
+    μ-loop2
+    Inv-loop5
+    μ-loop5
+    Inv-loop4
+    μ-loop4
+    Inv-loop3
+    μ-loop3
+    Inv-scan
+    μ-scan
+loop2-again c = ?
+
+-- src/scan.rt:237:9
+loop3-holds :
+    tie.Need-loop3-holds
+    Inv-loop
+    μ-loop
+    Inv-loop2
+    μ-loop2
+    Inv-loop5
+    μ-loop5
+    Inv-loop4
+    μ-loop4
+    Inv-loop3
+    μ-loop3
+    Inv-scan
+    μ-scan
+loop3-holds c = ?
+
+-- src/scan.rt:238:17
+row-at-requires-3 :
+    tie.Need-row-at-requires-3
+    Inv-loop
+    μ-loop
+    Inv-loop2
+    μ-loop2
+    Inv-loop5
+    μ-loop5
+    Inv-loop4
+    μ-loop4
+    Inv-loop3
+    μ-loop3
+    Inv-scan
+    μ-scan
+row-at-requires-3 c κs = ?
+
+-- src/scan.rt:239:17
+schedules-requires :
+    tie.Need-schedules-requires
+    Inv-loop
+    μ-loop
+    Inv-loop2
+    μ-loop2
+    Inv-loop5
+    μ-loop5
+    Inv-loop4
+    μ-loop4
+    Inv-loop3
+    μ-loop3
+    Inv-scan
+    μ-scan
+schedules-requires c κs = ?
+
+-- src/scan.rt:241:13
+loop4-holds :
+    tie.Need-loop4-holds
+    Inv-loop
+    μ-loop
+    Inv-loop2
+    μ-loop2
+    Inv-loop5
+    μ-loop5
+    Inv-loop4
+    μ-loop4
+    Inv-loop3
+    μ-loop3
+    Inv-scan
+    μ-scan
+loop4-holds c = ?
+
+-- src/scan.rt:242:21
+schedule-at-requires :
+    tie.Need-schedule-at-requires
+    Inv-loop
+    μ-loop
+    Inv-loop2
+    μ-loop2
+    Inv-loop5
+    μ-loop5
+    Inv-loop4
+    μ-loop4
+    Inv-loop3
+    μ-loop3
+    Inv-scan
+    μ-scan
+schedule-at-requires c κs = ?
+
+-- src/scan.rt:243:20
 curve-misplaced-requires :
-    tie.Need-curve-misplaced-requires Inv-loop μ-loop Inv-loop3 μ-loop3 Inv-loop2 μ-loop2 Inv-scan μ-scan
-curve-misplaced-requires c κs = search needs
+    tie.Need-curve-misplaced-requires
+    Inv-loop
+    μ-loop
+    Inv-loop2
+    μ-loop2
+    Inv-loop5
+    μ-loop5
+    Inv-loop4
+    μ-loop4
+    Inv-loop3
+    μ-loop3
+    Inv-scan
+    μ-scan
+curve-misplaced-requires c κs = ?
 
-curve-requires : tie.Need-curve-requires Inv-loop μ-loop Inv-loop3 μ-loop3 Inv-loop2 μ-loop2 Inv-scan μ-scan
-curve-requires c κs =
-    let s = c .before .before .before .before .before .before .before .before .before .before .before in
-    (s .pre, sym (c .before .curve-misplaced .ensures) ∙ c .if4 .left)
+-- src/scan.rt:246:21
+curve-requires :
+    tie.Need-curve-requires
+    Inv-loop
+    μ-loop
+    Inv-loop2
+    μ-loop2
+    Inv-loop5
+    μ-loop5
+    Inv-loop4
+    μ-loop4
+    Inv-loop3
+    μ-loop3
+    Inv-scan
+    μ-scan
+curve-requires c κs = ?
 
-loop3-holds : tie.Need-loop3-holds Inv-loop μ-loop Inv-loop3 μ-loop3 Inv-loop2 μ-loop2 Inv-scan μ-scan
-unfolding rowIn
-loop3-holds c =
-    let q = c .before .before .before .before .before .before in
-    let s = q .before .before .before .before .before .before in
-    let f = s .args .file .now in
-    let row = c .before .before .before .row-at2 in
-    let rows = row-count (s .pre .read) in
-    let told = sym (c .before .before .curve-misplaced .ensures) ∙ c .before .if4 .left in
-    let placed = ap (λ n. curveMisplaced n (rowIn (row .result))) (sym (point-count (s .pre .read))) ∙ told in
-    let begins = curve-begins f (q .loop2 .inv .1) (q .loop2 .k) (rowIn (row .result)) (row .ensures) (q .loop2 .inv .2) in
-    (omega arith, begins (omega (arith, rows)) _ (c .curve .ensures .0) placed)
+-- src/scan.rt:248:17
+loop5-holds :
+    tie.Need-loop5-holds
+    Inv-loop
+    μ-loop
+    Inv-loop2
+    μ-loop2
+    Inv-loop5
+    μ-loop5
+    Inv-loop4
+    μ-loop4
+    Inv-loop3
+    μ-loop3
+    Inv-scan
+    μ-scan
+loop5-holds c = ?
 
+-- src/scan.rt:249:24
 point-refused-requires :
-    tie.Need-point-refused-requires Inv-loop μ-loop Inv-loop3 μ-loop3 Inv-loop2 μ-loop2 Inv-scan μ-scan
-point-refused-requires c κs = omega (arith, c .before .before .before .curve .ensures .1)
+    tie.Need-point-refused-requires
+    Inv-loop
+    μ-loop
+    Inv-loop2
+    μ-loop2
+    Inv-loop5
+    μ-loop5
+    Inv-loop4
+    μ-loop4
+    Inv-loop3
+    μ-loop3
+    Inv-scan
+    μ-scan
+point-refused-requires c κs = ?
 
-add-j : tie.Need-add-j Inv-loop μ-loop Inv-loop3 μ-loop3 Inv-loop2 μ-loop2 Inv-scan μ-scan
-add-j c = search needs
+-- src/scan.rt:252:21
+add-j :
+    tie.Need-add-j
+    Inv-loop
+    μ-loop
+    Inv-loop2
+    μ-loop2
+    Inv-loop5
+    μ-loop5
+    Inv-loop4
+    μ-loop4
+    Inv-loop3
+    μ-loop3
+    Inv-scan
+    μ-scan
+add-j c = ?
 
-loop3-less : tie.Need-loop3-less Inv-loop μ-loop Inv-loop3 μ-loop3 Inv-loop2 μ-loop2 Inv-scan μ-scan
-loop3-less c = search needs
+-- src/scan.rt:248:17
+loop5-less :
+    tie.Need-loop5-less
+    Inv-loop
+    μ-loop
+    Inv-loop2
+    μ-loop2
+    Inv-loop5
+    μ-loop5
+    Inv-loop4
+    μ-loop4
+    Inv-loop3
+    μ-loop3
+    Inv-scan
+    μ-scan
+loop5-less c = ?
 
-loop3-again : tie.Need-loop3-again Inv-loop μ-loop Inv-loop3 μ-loop3 Inv-loop2 μ-loop2 Inv-scan μ-scan
-loop3-again c =
-    let r = c .before .before .before .before in
-    let q = r .before .before .before .before .before .before .before in
-    let f = q .before .before .before .before .before .before .args .file .now in
-    let told = sym (c .before .point-refused .ensures) ∙ c .if6 .left in
-    let passes = point-passes f (q .loop2 .inv .1) (q .loop2 .k) _ _ (r .loop3 .j) (r .loop3 .inv .1) in
-    (omega arith, passes (omega arith) told)
+-- src/scan.rt:248:17
+loop5-again :
+    tie.Need-loop5-again
+    Inv-loop
+    μ-loop
+    Inv-loop2
+    μ-loop2
+    Inv-loop5
+    μ-loop5
+    Inv-loop4
+    μ-loop4
+    Inv-loop3
+    μ-loop3
+    Inv-scan
+    μ-scan
+loop5-again c = ?
 
-add-k : tie.Need-add-k Inv-loop μ-loop Inv-loop3 μ-loop3 Inv-loop2 μ-loop2 Inv-scan μ-scan
-add-k c = search needs
+-- src/scan.rt:254:17
+add-k :
+    tie.Need-add-k
+    Inv-loop
+    μ-loop
+    Inv-loop2
+    μ-loop2
+    Inv-loop5
+    μ-loop5
+    Inv-loop4
+    μ-loop4
+    Inv-loop3
+    μ-loop3
+    Inv-scan
+    μ-scan
+add-k c = ?
 
-loop2-less : tie.Need-loop2-less Inv-loop μ-loop Inv-loop3 μ-loop3 Inv-loop2 μ-loop2 Inv-scan μ-scan
-loop2-less c = search needs
+-- src/scan.rt:241:13
+loop4-less :
+    tie.Need-loop4-less
+    Inv-loop
+    μ-loop
+    Inv-loop2
+    μ-loop2
+    Inv-loop5
+    μ-loop5
+    Inv-loop4
+    μ-loop4
+    Inv-loop3
+    μ-loop3
+    Inv-scan
+    μ-scan
+loop4-less c = ?
 
-loop2-again : tie.Need-loop2-again Inv-loop μ-loop Inv-loop3 μ-loop3 Inv-loop2 μ-loop2 Inv-scan μ-scan
-loop2-again c =
-    let r = c .before .before in
-    let q = r .before .before .before .before .before .before .before in
-    let f = q .before .before .before .before .before .before .args .file .now in
-    let passes = curve-passes f (q .loop2 .inv .1) (q .loop2 .k) _ _ (r .loop3 .j) (r .loop3 .inv .1) in
-    (omega arith, q .loop2 .inv .1, passes (omega arith))
+-- src/scan.rt:241:13
+loop4-again :
+    tie.Need-loop4-again
+    Inv-loop
+    μ-loop
+    Inv-loop2
+    μ-loop2
+    Inv-loop5
+    μ-loop5
+    Inv-loop4
+    μ-loop4
+    Inv-loop3
+    μ-loop3
+    Inv-scan
+    μ-scan
+loop4-again c = ?
 
-returns : tie.Need-returns Inv-loop μ-loop Inv-loop3 μ-loop3 Inv-loop2 μ-loop2 Inv-scan μ-scan
-returns c =
-    let l = c .before .before .before .before .before in
-    let s = l .before .before .before in
-    let rows = row-count (s .pre .read) in
-    let told = sym (c .before .row-outside .ensures) ∙ c .if2 .taken in
-    let row = c .before .before .row-at .ensures in
-    sym (row-fails (s .args .file .now) (l .loop .i) _ row (l .loop .inv .1) (omega (arith, rows)) told)
+-- src/scan.rt:256:13
+add-n :
+    tie.Need-add-n
+    Inv-loop
+    μ-loop
+    Inv-loop2
+    μ-loop2
+    Inv-loop5
+    μ-loop5
+    Inv-loop4
+    μ-loop4
+    Inv-loop3
+    μ-loop3
+    Inv-scan
+    μ-scan
+add-n c = ?
 
-returns-2 : tie.Need-returns-2 Inv-loop μ-loop Inv-loop3 μ-loop3 Inv-loop2 μ-loop2 Inv-scan μ-scan
-returns-2 c =
-    let q = c .before .before .before .before .before in
-    let s = q .before .before .before .before .before .before in
-    let f = s .args .file .now in
-    let row = c .before .before .row-at2 in
-    let rows = row-count (s .pre .read) in
-    let told = sym (c .before .curve-misplaced .ensures) ∙ c .if4 .taken in
-    let misplaced = ap (λ n. curveMisplaced n (rowIn (row .result))) (sym (point-count (s .pre .read))) ∙ told in
-    let fails = curve-fails f (q .loop2 .inv .1) (q .loop2 .k) (rowIn (row .result)) (row .ensures) (q .loop2 .inv .2) in
-    sym (fails (omega (arith, rows)) misplaced)
+-- src/scan.rt:237:9
+loop3-less :
+    tie.Need-loop3-less
+    Inv-loop
+    μ-loop
+    Inv-loop2
+    μ-loop2
+    Inv-loop5
+    μ-loop5
+    Inv-loop4
+    μ-loop4
+    Inv-loop3
+    μ-loop3
+    Inv-scan
+    μ-scan
+loop3-less c = ?
 
-returns-3 : tie.Need-returns-3 Inv-loop μ-loop Inv-loop3 μ-loop3 Inv-loop2 μ-loop2 Inv-scan μ-scan
-returns-3 c =
-    let r = c .before .before .before .before in
-    let q = r .before .before .before .before .before .before .before in
-    let f = q .before .before .before .before .before .before .args .file .now in
-    let told = sym (c .before .point-refused .ensures) ∙ c .if6 .taken in
-    sym (point-fails f (q .loop2 .inv .1) (q .loop2 .k) _ _ (r .loop3 .j) (r .loop3 .inv .1) (omega arith) told)
+-- src/scan.rt:237:9
+loop3-again :
+    tie.Need-loop3-again
+    Inv-loop
+    μ-loop
+    Inv-loop2
+    μ-loop2
+    Inv-loop5
+    μ-loop5
+    Inv-loop4
+    μ-loop4
+    Inv-loop3
+    μ-loop3
+    Inv-scan
+    μ-scan
+loop3-again c = ?
 
-returns-4 : tie.Need-returns-4 Inv-loop μ-loop Inv-loop3 μ-loop3 Inv-loop2 μ-loop2 Inv-scan μ-scan
-returns-4 c =
-    let q = c .before .before in
-    let s = q .before .before .before .before .before .before in
-    let rows = row-count (s .pre .read) in
-    sym (all-pass (s .args .file .now) (q .loop2 .inv .1) (q .loop2 .k) (q .loop2 .inv .2) (omega (arith, rows)))
+-- src/scan.rt:216:1
+returns :
+    tie.Need-returns
+    Inv-loop
+    μ-loop
+    Inv-loop2
+    μ-loop2
+    Inv-loop5
+    μ-loop5
+    Inv-loop4
+    μ-loop4
+    Inv-loop3
+    μ-loop3
+    Inv-scan
+    μ-scan
+returns c = ?
+
+-- src/scan.rt:216:1
+returns-2 :
+    tie.Need-returns-2
+    Inv-loop
+    μ-loop
+    Inv-loop2
+    μ-loop2
+    Inv-loop5
+    μ-loop5
+    Inv-loop4
+    μ-loop4
+    Inv-loop3
+    μ-loop3
+    Inv-scan
+    μ-scan
+returns-2 c = ?
+
+-- src/scan.rt:216:1
+returns-3 :
+    tie.Need-returns-3
+    Inv-loop
+    μ-loop
+    Inv-loop2
+    μ-loop2
+    Inv-loop5
+    μ-loop5
+    Inv-loop4
+    μ-loop4
+    Inv-loop3
+    μ-loop3
+    Inv-scan
+    μ-scan
+returns-3 c = ?
+
+-- src/scan.rt:216:1
+returns-4 :
+    tie.Need-returns-4
+    Inv-loop
+    μ-loop
+    Inv-loop2
+    μ-loop2
+    Inv-loop5
+    μ-loop5
+    Inv-loop4
+    μ-loop4
+    Inv-loop3
+    μ-loop3
+    Inv-scan
+    μ-scan
+returns-4 c = ?
+
+-- src/scan.rt:216:1
+returns-5 :
+    tie.Need-returns-5
+    Inv-loop
+    μ-loop
+    Inv-loop2
+    μ-loop2
+    Inv-loop5
+    μ-loop5
+    Inv-loop4
+    μ-loop4
+    Inv-loop3
+    μ-loop3
+    Inv-scan
+    μ-scan
+returns-5 c = ?
 
 pub scan-spec : {M : Type 1} → statement M
 scan-spec =
@@ -189,12 +683,17 @@ scan-spec =
     (tie.spec
     Inv-loop
     μ-loop
-    Inv-loop3
-    μ-loop3
     Inv-loop2
     μ-loop2
+    Inv-loop5
+    μ-loop5
+    Inv-loop4
+    μ-loop4
+    Inv-loop3
+    μ-loop3
     Inv-scan
     μ-scan
+    rows-naming-requires
     scan-holds
     loop-holds
     row-at-requires
@@ -204,17 +703,30 @@ scan-spec =
     loop-again
     loop2-holds
     row-at-requires-2
-    curve-misplaced-requires
-    curve-requires
-    loop3-holds
-    point-refused-requires
-    add-j
-    loop3-less
-    loop3-again
-    add-k
+    schedules-outside-requires
+    add-m
     loop2-less
     loop2-again
+    loop3-holds
+    row-at-requires-3
+    schedules-requires
+    loop4-holds
+    schedule-at-requires
+    curve-misplaced-requires
+    curve-requires
+    loop5-holds
+    point-refused-requires
+    add-j
+    loop5-less
+    loop5-again
+    add-k
+    loop4-less
+    loop4-again
+    add-n
+    loop3-less
+    loop3-again
     returns
     returns-2
     returns-3
-    returns-4)
+    returns-4
+    returns-5)

@@ -1,38 +1,78 @@
+-- `reading::scan::schedules_outside` meets its contract. Each test is one of the ground.
+use Prim.Native.Nat.{_+_}
+use mathlib.Core.Path.{sym, ap, _∙_}
+use native.Mathlib.Omega.{arith}
 use borrow.Author.Needs.{needs}
+use borrow.Author.Tests.{ltb-false}
+use lib.Dec.{ltb}
+use Rattle.reading.specs.Values.{rowIn}
+use Rattle.reading.proofs.Facts.{other-said, schedule-count}
+use Rattle.reading.proofs.ScheduleTests.{
+  none-dispatched,
+  schedules-above,
+  dispatched-late,
+  schedules-beyond,
+  kinds-left,
+}
 use Rattle.reading.proofs.scan.schedules_outside.Statement.{statement}
 use Rattle.reading.proofs.scan.schedules_outside.Tie as tie
-use Rattle.reading.proofs.scan.schedules_outside.Reads as reads
-use Rattle.reading.proofs.scan.schedules_outside.Lts as lts
-use Rattle.reading.proofs.scan.kinds_outside.Reads as kinds-outside-reads
-use Rattle.reading.proofs.scan.reach_beyond.Reads as reach-beyond-reads
 
--- src/scan.rt:144:9
 returns : tie.Need-returns
-returns c = ?
+unfolding rowIn
+returns c =
+    let s = c .before .before .before .before in
+    let f = s .args .file .now in
+    let w = rowIn (s .args .row) in
+    let two = other-said (s .pre .0 .read) (s .pre .1) in
+    sym (none-dispatched f w two (omega arith))
 
--- src/scan.rt:147:9
 returns-2 : tie.Need-returns-2
-returns-2 c = ?
+unfolding rowIn
+returns-2 c =
+    let s = c .before .before .before .before .before in
+    let f = s .args .file .now in
+    let w = rowIn (s .args .row) in
+    let two = other-said (s .pre .0 .read) (s .pre .1) in
+    sym (schedules-above f w two (omega arith))
 
--- src/scan.rt:150:9
 returns-3 : tie.Need-returns-3
-returns-3 c = ?
+unfolding rowIn
+returns-3 c =
+    let s = c .before .before .before .before .before .before .before in
+    let f = s .args .file .now in
+    let w = rowIn (s .args .row) in
+    let two = other-said (s .pre .0 .read) (s .pre .1) in
+    sym (dispatched-late f w two (omega arith) (omega arith))
 
--- src/scan.rt:152:8
 reach-beyond-requires : tie.Need-reach-beyond-requires
 reach-beyond-requires c κs = search needs
 
--- src/scan.rt:153:9
 returns-4 : tie.Need-returns-4
-returns-4 c = ?
+unfolding rowIn
+returns-4 c =
+    let s = c .before .before .before .before .before .before .before .before .before in
+    let f = s .args .file .now in
+    let w = rowIn (s .args .row) in
+    let two = other-said (s .pre .0 .read) (s .pre .1) in
+    let table = ap (λ n. ltb n (w .first + w .count)) (sym (schedule-count (s .pre .0 .read))) in
+    sym (schedules-beyond f w two (omega arith) (table ∙ sym (c .before .reach-beyond .ensures) ∙ c .if4 .taken))
 
--- src/scan.rt:155:5
 kinds-outside-requires : tie.Need-kinds-outside-requires
-kinds-outside-requires c κs = ?
+kinds-outside-requires c κs =
+    let s = c .before .before .before .before .before .before .before .before .before in
+    (s .pre .0, ltb-false _ _ (sym (c .before .reach-beyond .ensures) ∙ c .if4 .left))
 
--- src/scan.rt:137:1
 returns-5 : tie.Need-returns-5
-returns-5 c = ?
+unfolding rowIn
+returns-5 c =
+    let s = c .before .before .before .before .before .before .before .before .before .before in
+    let f = s .args .file .now in
+    let w = rowIn (s .args .row) in
+    let two = other-said (s .pre .0 .read) (s .pre .1) in
+    let e = c .before in
+    let table = ap (λ n. ltb n (w .first + w .count)) (sym (schedule-count (s .pre .0 .read))) in
+    let lies = table ∙ sym (e .before .reach-beyond .ensures) ∙ e .if4 .left in
+    c .kinds-outside .ensures ∙ sym (kinds-left f w two (omega arith) (omega arith) lies)
 
 pub schedules-outside-spec : {M : Type 1} → statement M
 schedules-outside-spec =
