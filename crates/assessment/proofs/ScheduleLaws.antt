@@ -1,13 +1,16 @@
 -- A row's schedules: the one that it was dispatched on, and the highest kW of those that the economic rule looks at.
 use Prim.Native.Nat.{ℕ, zero, suc, _+_, _≤_, _<_, max}
-use mathlib.Core.Path.{_≡_, refl, sym, ap, subst, _∙_}
+use mathlib.Core.Path.{_≡_, refl, sym, ap, ap₂, subst, _∙_}
 use mathlib.Core.List.{List, [], _∷_, map}
-use mathlib.Core.Bool.{Bool, true, false, cond}
+use mathlib.Core.Bool.{Bool, true, false, cond, not}
 use native.Mathlib.Omega.{arith}
-use borrow.Author.Tests.{eq-eqb, ne-eqb}
+use borrow.Author.Tests.{ne-eqb}
 use lib.ListN.{length, take, drop}
 use lib.Seq.{drop-nil}
+use lib.Dec.{eqb}
 use Rattle.reading.specs.Interval.{
+  market,
+  priceBased,
   Point,
   RowWords,
   ScheduleWords,
@@ -26,7 +29,6 @@ use Rattle.reading.specs.Values.{Sound, SoundCurve}
 use Rattle.reading.proofs.SoundRows.{
   schedule-sound,
   schedules-of,
-  length-schedules,
   next-schedule,
   no-schedule,
   dispatched-none,
@@ -88,22 +90,133 @@ module _ (r : Row) where
       by [] some = absurd (omega arith)
       by (p ∷ ps) some = refl
 
-  -- with a schedule the economic rule takes the highest by that one and by those that it looks at
-  economic-on : (s : Schedule) → dispatchedOn r ≡ s ∷ [] → economicScheduled r ≡ max (scheduled r) (highest (s .kind) r (r .schedules))
-  unfolding economicScheduled economicBy scheduled dispatchedCurve firstCurve
+  -- with a schedule, scheduled is by its curve
+  scheduled-on : (s : Schedule) → dispatchedOn r ≡ s ∷ [] → scheduled r ≡ scheduledBy (s .curve) r
+  unfolding scheduled dispatchedCurve firstCurve
+  scheduled-on s on = ap (λ on. scheduledBy (firstCurve on) r) on
+
+  -- and the economic rule takes the highest by that one and by those that it looks at
+  economic-on : (s : Schedule) → dispatchedOn r ≡ s ∷ []
+      → economicScheduled r ≡ max (scheduled r) (highest (s .kind) r (r .schedules))
+  unfolding economicScheduled economicBy
   economic-on s on =
       ap (λ on. economicBy on r) on
-      ∙ ap (λ ps. max (scheduledBy ps r) (highest (s .kind) r (r .schedules))) (sym (ap firstCurve on))
+      ∙ ap (λ kw. max kw (highest (s .kind) r (r .schedules))) (sym (scheduled-on s on))
 
   -- of one schedule or none it takes the scheduled kW, whatever the kind
   pub economic-one : length (r .schedules) ≤ 1 → economicScheduled r ≡ scheduled r
+  unfolding dispatchedOn highest
   economic-one = by (r .schedules) refl
     where
-      -- dispatched on it, or on none
+      -- dispatched on none
+      on-none : dispatchedOn r ≡ [] → economicScheduled r ≡ scheduled r
+      on-none none = sym (economic-none none) ∙ sym (scheduled-none none)
+      -- dispatched on the one, or beyond it
       placed : (s : Schedule) (d : ℕ) → r .schedules ≡ s ∷ [] → r .dispatched ≡ d → economicScheduled r ≡ scheduled r
-      placed s zero e d = ?one
-      placed s (suc n) e d = ?beyond
+      placed s zero e d =
+          let on : dispatchedOn r ≡ s ∷ [] = ap₂ (λ d ss. take 1 (drop d ss)) d e in
+          let all : highest (s .kind) r (r .schedules) ≡ max (countedFor (s .kind) r s) 0 = ap (highest (s .kind) r) e in
+          omega (arith, economic-on s on, scheduled-on s on, all, counted-le (s .kind) r s)
+      placed s (suc n) e d = on-none (ap₂ (λ d ss. take 1 (drop d ss)) d e ∙ ap (take 1) (drop-nil n))
       by : (ss : List Schedule) → r .schedules ≡ ss → length ss ≤ 1 → economicScheduled r ≡ scheduled r
-      by [] e few = ?none
+      by [] e few = on-none (ap (λ ss. take 1 (drop (r .dispatched) ss)) e ∙ ap (take 1) (drop-nil (r .dispatched)))
       by (s ∷ []) e few = placed s (r .dispatched) e refl
       by (s ∷ t ∷ ss) e few = absurd (omega arith)
+
+-- the kind of the schedule dispatched on, and what it says of another
+module _ (on other : ℕ) where
+  -- on market the economic rule looks at any
+  pub looks-market : on ≡ market → true ≡ looksAt on other
+  unfolding looksAt
+  looks-market e = rw e
+
+  -- on price-based PLS at any but market ones
+  pub looks-price-based : on ≡ priceBased → not (eqb other market) ≡ looksAt on other
+  unfolding looksAt
+  looks-price-based e = rw e
+
+  -- on any other kind at none
+  pub looks-none : (on ≡ market → ⊥) → (on ≡ priceBased → ⊥) → false ≡ looksAt on other
+  unfolding looksAt
+  looks-none a b = rw (ne-eqb on market a, ne-eqb on priceBased b)
+
+-- what a schedule counts, by whether the economic rule looks at it
+module _ (on : ℕ) (r : Row) (s : Schedule) where
+  -- looked at, its scheduled kW
+  pub counted-yes : looksAt on (s .kind) ≡ true → scheduledBy (s .curve) r ≡ countedFor on r s
+  unfolding countedFor
+  counted-yes e = rw e
+
+  -- else nothing
+  pub counted-no : looksAt on (s .kind) ≡ false → 0 ≡ countedFor on r s
+  unfolding countedFor
+  counted-no e = rw e
+
+-- a sound row of a file
+module _ {f : List ℕ} {w : RowWords} (s : Sound f w) where
+  -- each schedule that is read of it has its points in order
+  pub read-sound : {k : ℕ} → k < length (schedulesNamed f w) → {v : ScheduleWords} → v ≡ scheduleAt f w k → SoundCurve f v
+  read-sound {k} below e = subst (SoundCurve f) (sym e) (schedule-sound s k below)
+
+  -- where the one dispatched on has no points, there is none
+  pub on-nothing : {v : ScheduleWords} → v ≡ scheduleAt f w (w .dispatched) → v .count ≡ 0 → dispatchedOn (rowOf f w) ≡ []
+  unfolding dispatchedOn
+  on-nothing e none =
+      let d = rowOf f w .dispatched in
+      let empty = schedules-of f w ∙ ap (map (scheduleOf f)) (dispatched-none s (ap (λ v. v .count) (sym e) ∙ none)) in
+      ap (λ ss. take 1 (drop d ss)) empty ∙ ap (take 1) (drop-nil d)
+
+-- before schedule k of a row dispatched on one of a kind: the highest so far, with what those left count, is what the economic rule takes,
+-- and it is no less than the row's own
+pub record Highest (r : Row) (on k most : ℕ) : Type 0 where
+  pub rest : max most (highest on r (drop k (r .schedules))) ≡ economicScheduled r
+  pub own : scheduled r ≤ most
+
+-- a row of a file that has the schedule that it was dispatched on
+module _ {f : List ℕ} {w : RowWords} (among : w .dispatched < length (schedulesNamed f w)) where
+  -- its kind
+  abbrev kind : ℕ
+  kind = scheduleAt f w (w .dispatched) .kind
+
+  -- it is that one
+  on-read : dispatchedOn (rowOf f w) ≡ scheduleOf f (scheduleAt f w (w .dispatched)) ∷ []
+  unfolding dispatchedOn rowOf rowWith
+  on-read = ap (take 1) (next-schedule f w (w .dispatched) among)
+
+  -- and the points that are read of it are its curve
+  pub read-curve : {v : ScheduleWords} → v ≡ scheduleAt f w (w .dispatched) → {c : List ℕ} → c ≡ curvePart f v
+      → pointsIn (v .count) c ≡ dispatchedCurve (rowOf f w)
+  unfolding dispatchedCurve firstCurve scheduleOf
+  read-curve {v} e part = curve-is f v part ∙ ap (curveOf f) e ∙ sym (ap firstCurve on-read)
+
+  -- before the first schedule, the row's own is the highest
+  pub highest-start : {own : ℕ} → own ≡ scheduled (rowOf f w) → Highest (rowOf f w) kind 0 own
+  unfolding scheduleOf
+  highest-start is =
+      let s = scheduleOf f (scheduleAt f w (w .dispatched)) in
+      record { rest = omega (arith, is, economic-on (rowOf f w) s on-read); own = omega (arith, is) }
+
+  -- what schedule k counts is taken, if it is higher
+  pub highest-turn : {k most more : ℕ} → Highest (rowOf f w) kind k most → k < length (schedulesNamed f w)
+      → more ≡ countedFor kind (rowOf f w) (scheduleOf f (scheduleAt f w k)) → Highest (rowOf f w) kind (k + 1) (max most more)
+  unfolding highest
+  highest-turn {k} {most} {more} h below is =
+      let next = ap (highest kind (rowOf f w)) (next-schedule f w k below) in
+      record { rest = omega (arith, h .rest, next, is); own = omega (arith, h .own) }
+
+  -- the one dispatched on need not be
+  pub highest-skip : {k most : ℕ} → Highest (rowOf f w) kind k most → k ≡ w .dispatched → Highest (rowOf f w) kind (k + 1) most
+  unfolding highest scheduleOf
+  highest-skip {k} {most} h e =
+      let s = scheduleOf f (scheduleAt f w k) in
+      let next = ap (highest kind (rowOf f w)) (next-schedule f w k (omega (arith, e, among))) in
+      let on = ap (λ k. scheduleOf f (scheduleAt f w k) ∷ []) e in
+      let own = scheduled-on (rowOf f w) s (on-read ∙ sym on) in
+      record { rest = omega (arith, h .rest, h .own, next, own, counted-le kind (rowOf f w) s); own = h .own }
+
+-- with no schedule left, it is what the economic rule takes
+pub highest-end : (f : List ℕ) (w : RowWords) {on k most : ℕ} → Highest (rowOf f w) on k most → length (schedulesNamed f w) ≤ k
+    → most ≡ economicScheduled (rowOf f w)
+unfolding highest
+highest-end f w {on} {k} {most} h done =
+    let none = ap (highest on (rowOf f w)) (no-schedule f w k done) in omega (arith, h .rest, none)
