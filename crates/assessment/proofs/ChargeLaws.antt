@@ -16,7 +16,6 @@ use Rattle.assessment.specs.Assessment.{
   accountOf,
   raised,
   divisors,
-  chargeOver,
   fullCharge,
   charge,
   chargedRow,
@@ -26,6 +25,7 @@ use Rattle.assessment.specs.Assessment.{
   share,
   credit,
 }
+use Rattle.assessment.proofs.Limits.{least-divisors, charge-over-none}
 use Rattle.assessment.proofs.Shares.{share-zero}
 
 -- figures that are all 0
@@ -34,8 +34,8 @@ noFigures = record { expected = 0; actual = 0; outage = 0; economic = 0; shortfa
 
 -- without a shortfall there is no charge
 pub no-charge : (t : Terms) (a : Account) → charge t a 0 ≡ 0
-unfolding charge fullCharge chargeOver divisors
-no-charge t a = omega arith
+unfolding charge fullCharge
+no-charge t a = omega (arith, charge-over-none (divisors t .charge) t (omega (arith, least-divisors t .1)))
 
 module _ (regionWide : ℕ) (q : Ratio) (r : Row) (out : considered regionWide r ≡ false) where
   -- a row that is not considered has no figures

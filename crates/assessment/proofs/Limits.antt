@@ -1,13 +1,17 @@
 -- Limits and charges, each a product over a divisor: how they rise, what they are at most, and the cut of a charge.
 use Prim.Native.Nat.{ℕ, zero, suc, _+_, _-_, _*_, _/_, _≤_, _<_, max}
-use mathlib.Core.Path.{_≡_, refl}
-use native.Mathlib.Nat.{mul-le-mul-left, mul-le-mul, div-zero, div-mul-le-self, le-div-iff-mul-le}
+use mathlib.Core.Path.{_≡_, refl, ap, _∙_}
+use mathlib.Core.Bool.{Bool, true, false, cond}
+use lib.Dec.{eqb}
+use borrow.Author.Tests.{eq-eqb, ne-eqb}
+use native.Mathlib.Nat.{mul-assoc, mul-le-mul-left, mul-le-mul, div-zero, div-eq-of-lt, div-mul-le-self, le-div-iff-mul-le}
 use native.Mathlib.Omega.{arith}
-use Rattle.reading.specs.Block.{Terms, mostNetCone, leapYear}
+use Rattle.reading.specs.Block.{Terms, mostNetCone, leapYear, transitionYear}
 use Rattle.reading.specs.Interval.{mostKilowatts}
 use Rattle.reading.proofs.Bounds.{TermsIn}
 use Rattle.assessment.specs.Assessment.{
   limitFactor,
+  Divisors,
   divisors,
   limitOver,
   limit,
@@ -18,6 +22,7 @@ use Rattle.assessment.specs.Assessment.{
   raised,
 }
 use Rattle.assessment.specs.Values.{mostCharge}
+use Rattle.assessment.specs.Claims.{hundredths, WithinTariff, LimitOfTariff}
 
 -- a quotient rises with what is divided, and falls as the divisor grows
 quotient-le : {a b d e : ℕ} → 0 < d → d ≤ e → a ≤ b → a / e ≤ b / d
@@ -45,6 +50,30 @@ pub limit-over-rises : (divisor : ℕ) (t : Terms) {a b : ℕ} → a ≤ b → l
 unfolding limitOver
 limit-over-rises divisor t h = div-rises divisor (mul-le-mul-left (limitFactor * t .netCone * t .days) h)
 
+-- the divisors of a year
+module _ (t : Terms) where
+  -- those of 2016
+  pub divisors-of-transition : t .year ≡ transitionYear → divisors t ≡ record { limit = 4000; charge = 720000 }
+  unfolding divisors
+  divisors-of-transition e = rw (eq-eqb (t .year) transitionYear e)
+
+  -- those of any other year
+  pub divisors-of-others : (t .year ≡ transitionYear → ⊥) → divisors t ≡ record { limit = 2000; charge = 360000 }
+  unfolding divisors
+  divisors-of-others other = rw (ne-eqb (t .year) transitionYear other)
+
+  -- none are below those of a year that is not named
+  pub least-divisors : (2000 ≤ divisors t .limit) × (360000 ≤ divisors t .charge)
+  unfolding divisors
+  least-divisors = by (eqb (t .year) transitionYear)
+    where
+      of : Bool → Divisors
+      of transition = cond transition (record { limit = 4000; charge = 720000 }) (record { limit = 2000; charge = 360000 })
+
+      by : (transition : Bool) → (2000 ≤ of transition .limit) × (360000 ≤ of transition .charge)
+      by true = (omega arith, omega arith)
+      by false = (omega arith, omega arith)
+
 -- the limit rises with the largest commitment
 pub limit-rises : (t : Terms) {a b : ℕ} → a ≤ b → limit t a ≤ limit t b
 unfolding limit
@@ -70,8 +99,8 @@ limit-over-le divisor t kw wide i k = quotient-le {d = 2000} (omega arith) wide 
 
 -- and so no account's limit is larger
 pub limit-le : (t : Terms) (kw : ℕ) → TermsIn t → kw ≤ mostKilowatts → limit t kw ≤ mostLimit
-unfolding limit divisors
-limit-le t kw i k = limit-over-le 2000 t kw (omega arith) i k
+unfolding limit
+limit-le t kw i k = limit-over-le (divisors t .limit) t kw (least-divisors t .0) i k
 
 -- the largest charge of any row, in cents
 pub most-charge : mostCharge ≡ 813333333
@@ -91,8 +120,13 @@ charge-over-le divisor t short wide i k = nearest-le {d = 360000} (omega arith) 
 
 -- and so no charge before the cut is larger
 pub full-charge-le : (t : Terms) (short : ℕ) → TermsIn t → short ≤ mostKilowatts → fullCharge t short ≤ mostCharge
-unfolding fullCharge divisors
-full-charge-le t short i k = charge-over-le 360000 t short (omega arith) i k
+unfolding fullCharge
+full-charge-le t short i k = charge-over-le (divisors t .charge) t short (least-divisors t .1) i k
+
+-- nothing short costs nothing, over any divisor
+pub charge-over-none : (divisor : ℕ) (t : Terms) → 0 < divisor → chargeOver divisor t 0 ≡ 0
+unfolding chargeOver
+charge-over-none divisor t some = div-eq-of-lt (omega arith)
 
 -- a charge is at most the charge before the cut
 pub charge-le-full : (t : Terms) (a : Account) (short : ℕ) → charge t a short ≤ fullCharge t short
@@ -108,3 +142,31 @@ pub charge-le : (t : Terms) (kw : ℕ) (a : Account) (short : ℕ)
     → charge t (raised kw a) short ≤ limit t (max (a .largest) kw) - a .charged
 unfolding charge raised
 charge-le t kw a short = omega arith
+
+-- the limit is the most whole cents within the tariff's part
+pub limit-of-tariff : LimitOfTariff
+unfolding LimitOfTariff WithinTariff hundredths limit limitOver divisors
+limit-of-tariff t kw cents = by (eqb (t .year) transitionYear)
+  where
+    of : Bool → Divisors
+    of transition = cond transition (record { limit = 4000; charge = 720000 }) (record { limit = 2000; charge = 360000 })
+
+    product : ℕ
+    product = t .netCone * t .days * kw
+
+    grouped : limitFactor * t .netCone * t .days * kw ≡ limitFactor * product
+    grouped =
+        ap (λ x. x * kw) (mul-assoc limitFactor (t .netCone) (t .days)) ∙ mul-assoc limitFactor (t .netCone * t .days) kw
+
+    by : (transition : Bool)
+        → (cents ≤ limitFactor * t .netCone * t .days * kw / of transition .limit
+        → 100 * (1000 * cents) ≤ cond transition 75 150 * product)
+        × (100 * (1000 * cents) ≤ cond transition 75 150 * product
+        → cents ≤ limitFactor * t .netCone * t .days * kw / of transition .limit)
+    by true = (λ h. omega (arith, h, grouped), λ h. omega (arith, h, grouped))
+    by false = (λ h. omega (arith, h, grouped), λ h. omega (arith, h, grouped))
+
+-- so what a limit allows is within it
+pub within-tariff : (t : Terms) (kw cents : ℕ) → cents ≤ limit t kw → WithinTariff t kw cents
+unfolding LimitOfTariff
+within-tariff t kw cents = limit-of-tariff t kw cents .0

@@ -6,14 +6,14 @@ use lib.IntN.{ℤ, pos, negsuc, natAbs, _+ℤ_, _-ℤ_}
 use lib.Dec.{ltb, eqb}
 use lib.Signed.{leZ, ltZ}
 use Rattle.words.specs.Lists.{sum}
-use Rattle.reading.specs.Block.{Terms}
+use Rattle.reading.specs.Block.{Terms, transitionYear}
 use Rattle.reading.specs.Interval.{Header, Point, Row, Kind, generation, demand, efficiency, responsive, energyOnly, importer, noKind, kindOf}
 
 -- the ratio is printed in millionths
 abbrev pub wholeRatio : ℕ
 wholeRatio = 1000000
 
--- of the limit: three halves of Net CONE times days times kW
+-- of the limit: three halves, or three quarters, of Net CONE times days times kW
 abbrev pub limitFactor : ℕ
 limitFactor = 3
 
@@ -279,9 +279,9 @@ pub record Divisors : Type 0 where
   pub limit : ℕ
   pub charge : ℕ
 
--- of a limit: 2 from the three halves, and 1000 kW to the MW; of a charge: 1000 kW to the MW, 30 hours, 12 intervals an hour
+-- by the year; of a limit: 2 from the three halves, or 4 from three quarters, and 1000 kW to the MW; of a charge: 1000 kW to the MW, 30 hours, 12 intervals an hour, doubled where the charge is halved
 unfoldable pub divisors : Terms → Divisors
-divisors t = record { limit = 2000; charge = 360000 }
+divisors t = cond (eqb (t .year) transitionYear) (record { limit = 4000; charge = 720000 }) (record { limit = 2000; charge = 360000 })
 
 -- three times Net CONE times days times kW over a divisor, rounded down
 unfoldable pub limitOver : ℕ → Terms → ℕ → ℕ

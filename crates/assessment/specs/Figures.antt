@@ -98,7 +98,11 @@ account largest charged = record { id = 1; largest = largest; charged = charged;
 
 -- a year of 365 days at a Net CONE
 abbrev pub terms : ℕ → Terms
-terms netCone = record { netCone = netCone; days = 365 }
+terms netCone = record { netCone = netCone; days = 365; year = 0 }
+
+-- a calendar year of 365 days at a Net CONE
+abbrev pub termsOf : ℕ → ℕ → Terms
+termsOf year netCone = record { netCone = netCone; days = 365; year = year }
 
 -- a ratio
 abbrev pub over : ℕ → ℕ → Ratio
@@ -337,6 +341,21 @@ workedFigures =
     ∷ fullCharge (terms 36) 1000 gives 37
     ∷ fullCharge (terms 36) 999 gives 36
     ∷ fullCharge (terms 30000) 18333 gives 557629
+    -- 2016 has half the charge, rounded once (7604.17 is not half of 30417), and three quarters of Net CONE as limit
+    ∷ fullCharge (termsOf 2016 30000) 1000 gives 15208
+    ∷ fullCharge (termsOf 2016 30000) 500 gives 7604
+    ∷ limit (termsOf 2016 30000) 1000 gives 8212500
+    ∷ fullCharge (termsOf 2016 1) 986 gives 0
+    ∷ fullCharge (termsOf 2016 1) 987 gives 1
+    -- half of the rounded charge would be 1 cent where 0.25 cents are due
+    ∷ fullCharge (terms 1) 494 gives 1
+    ∷ fullCharge (termsOf 2016 1) 494 gives 0
+    ∷ charge (termsOf 2016 30000) (account 1 8200) 1 gives 12
+    -- every later year has the divisors of a year that is not named
+    ∷ fullCharge (termsOf 2018 30000) 1000 gives 30417
+    ∷ limit (termsOf 2018 30000) 1000 gives 16425000
+    ∷ limit (termsOf 2023 30000) 1000 gives 16425000
+    ∷ limit (terms 30000) 1000 gives 16425000
     -- a commitment raises its account only if it is larger, and leaves the sums
     ∷ raised 2 (account 1 16400) .largest gives 2
     ∷ raised 1 (account 2 16400) .largest gives 2

@@ -36,7 +36,7 @@ mostNumerator = mostImports + mostActual * mostRows
 
 -- the highest terms
 abbrev pub highestTerms : Terms
-highestTerms = record { netCone = mostNetCone; days = leapYear }
+highestTerms = record { netCone = mostNetCone; days = leapYear; year = 0 }
 
 -- the most cents of a charge: for the most kW, on the highest terms
 abbrev pub mostCharge : ℕ

@@ -2,6 +2,7 @@
 
 use crate::units::Cents;
 use crate::units::Kilowatts;
+use reading::block::TRANSITION_YEAR;
 use reading::block::Terms;
 use reading::scan::MOST_KILOWATTS as MOST_WORD;
 ghost use mathlib.Core.Path.{_≡_};
@@ -18,9 +19,14 @@ pub const MOST_KILOWATTS: Kilowatts = Kilowatts(MOST_WORD);
 
 const LIMIT_FACTOR: u64 = 3;
 
+// The divisors of the limit and of a charge, and those of 2016. Each division is by a constant, which is fast.
 const LIMIT_DIVISOR: u64 = 2000;
 
 const CHARGE_DIVISOR: u64 = 360000;
+
+const TRANSITION_LIMIT_DIVISOR: u64 = 4000;
+
+const TRANSITION_CHARGE_DIVISOR: u64 = 720000;
 
 // An account: its id, the largest commitment so far, and the sums charged and credited.
 pub struct Account {
@@ -36,7 +42,12 @@ pub fn limit(terms: Terms, kw: Kilowatts) -> Cents
     requires { ⌜ kw .0 ≤ mostKilowatts ⌝ }
     ensures { λ r. ⌜ r .0 ≡ limitOf (termsIn terms) (kw .0) ⌝ }
 {
-    Cents(LIMIT_FACTOR * terms.net_cone * terms.days * kw.0 / LIMIT_DIVISOR)
+    let product = LIMIT_FACTOR * terms.net_cone * terms.days * kw.0;
+    let year = terms.year;
+    match year {
+        TRANSITION_YEAR => Cents(product / TRANSITION_LIMIT_DIVISOR),
+        _ => Cents(product / LIMIT_DIVISOR),
+    }
 }
 
 // The charge for a shortfall before the limit cuts it, to the nearest cent, half a cent upward.
@@ -45,7 +56,14 @@ fn full_charge(terms: Terms, short: Kilowatts) -> Cents
     requires { ⌜ short .0 ≤ mostKilowatts ⌝ }
     ensures { λ r. ⌜ r .0 ≡ fullCharge (termsIn terms) (short .0) ⌝ }
 {
-    Cents((short.0 * terms.net_cone * terms.days + CHARGE_DIVISOR / 2) / CHARGE_DIVISOR)
+    let product = short.0 * terms.net_cone * terms.days;
+    let year = terms.year;
+    match year {
+        TRANSITION_YEAR => Cents(
+            (product + TRANSITION_CHARGE_DIVISOR / 2) / TRANSITION_CHARGE_DIVISOR,
+        ),
+        _ => Cents((product + CHARGE_DIVISOR / 2) / CHARGE_DIVISOR),
+    }
 }
 
 impl Account {

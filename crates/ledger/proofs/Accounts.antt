@@ -142,7 +142,7 @@ standing-kept at ws b h room =
     let kept : (k : ℕ) → k < 8 → numberAt 8 (writtenAt at ws b) (8 * k) ≡ numberAt 8 b (8 * k) =
     λ k low. before-kept 8 at (8 * k) ws b (omega arith) room in
     λ i. record {
-      terms = record { netCone = kept 1 (omega arith) i; days = kept 2 (omega arith) i };
+      terms = record { netCone = kept 1 (omega arith) i; days = kept 2 (omega arith) i; year = kept 7 (omega arith) i };
       earliest = kept 3 (omega arith) i;
       carried = kept 4 (omega arith) i;
       accountCount = kept 5 (omega arith) i;

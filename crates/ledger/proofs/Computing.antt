@@ -12,6 +12,7 @@ use Rattle.ledger.specs.Ledger.{
   ledgerWords,
   idsIn,
   notLaidOut,
+  ledgerTermsOutside,
   accountOutside,
   doesNotClose,
   notALedger,
@@ -21,5 +22,5 @@ use Rattle.ledger.specs.Opening.{ledgerTooShort, openingGrounds, openedL
 unfoldable pub computing : ℕ
 unfolding assessment-computing
     standingOf ledgerBytes accountAt accountCount ledgerOf accountWords standingWords ledgerWords idsIn
-    notLaidOut accountOutside doesNotClose notALedger ledgerTooShort openingGrounds openedLedger opening
+    notLaidOut ledgerTermsOutside accountOutside doesNotClose notALedger ledgerTooShort openingGrounds openedLedger opening
 computing = 0

@@ -2,12 +2,15 @@
 use mathlib.Core.Path.{refl}
 use Rattle.ledger.specs.Figures.{
   blockWith,
+  datedWith,
   listingBlock,
   openedListing,
+  opened2016,
   opens,
   openingFigures,
   openingOrder,
   ledgerWith,
+  ledgerOfYear,
   refusedOn6,
   ledgerFigures,
   LedgerFigures,
@@ -16,5 +19,5 @@ use Rattle.ledger.proofs.Computing.{computing}
 
 -- the listing's opened ledger and all figures of opening and of ground 6 come out as stated
 pub ledger-figures : LedgerFigures
-unfolding blockWith listingBlock openedListing opens openingFigures openingOrder ledgerWith refusedOn6 ledgerFigures computing
-ledger-figures = record { opened = refl; opening-figures = refl; opening-order = refl; ledger-figures = refl }
+unfolding blockWith datedWith listingBlock openedListing opened2016 opens openingFigures openingOrder ledgerWith ledgerOfYear refusedOn6 ledgerFigures computing
+ledger-figures = record { opened = refl; opened-2016 = refl; opening-figures = refl; opening-order = refl; ledger-figures = refl }

@@ -6,11 +6,11 @@ use mathlib.Core.Bool.{Bool, true, false, not, _||_, false≢true, or-true, or-a
 use native.Mathlib.Omega.{arith}
 use lib.ListN.{length, drop}
 use lib.Dec.{ltb, eqb}
-use borrow.Author.Tests.{lt-ltb, le-ltb}
+use borrow.Author.Tests.{lt-ltb, le-ltb, eq-eqb, ne-eqb}
 use Rattle.words.specs.Lists.{sum, any, risesAbove}
 use Rattle.words.specs.Grounds.{outside}
 use Rattle.words.proofs.Tests.{facts, lies-inside, lies-below, lies-above}
-use Rattle.reading.specs.Block.{Terms, mostIds, termsOutside, idsOutOfOrder}
+use Rattle.reading.specs.Block.{Terms, mostIds, termsOutside, yearOutside, idsOutOfOrder}
 use Rattle.reading.specs.Interval.{intervalsPerDay, mostKilowatts}
 use Rattle.reading.specs.Values.{termsIn}
 use Rattle.reading.proofs.Bounds.{terms-in}
@@ -27,6 +27,7 @@ use Rattle.ledger.specs.Ledger.{
   ledgerOf,
   idsIn,
   notLaidOut,
+  ledgerTermsOutside,
   accountOutside,
   doesNotClose,
   notALedger,
@@ -50,15 +51,32 @@ or-second false t e = e
 -- by these, search finds a chain of alternatives to hold from the one that does
 pub ruleset holds = (or-first, or-second, lt-ltb, lies-below, lies-above)
 
+-- what the tests of a ledger's terms say
+module _ (t : Terms) where
+  -- terms against ground 2 are refused
+  pub terms-refuse : termsOutside t ≡ true → ledgerTermsOutside t ≡ true
+  unfolding ledgerTermsOutside
+  terms-refuse e = rw e
+
+  -- others that name no year are not
+  pub year-unnamed : termsOutside t ≡ false → t .year ≡ 0 → ledgerTermsOutside t ≡ false
+  unfolding ledgerTermsOutside
+  year-unnamed e none = rw (e, eq-eqb (t .year) 0 none)
+
+  -- and where one is named, it decides
+  pub year-decides : termsOutside t ≡ false → (t .year ≡ 0 → ⊥) → ledgerTermsOutside t ≡ yearOutside t
+  unfolding ledgerTermsOutside
+  year-decides e some = rw (e, ne-eqb (t .year) 0 some)
+
 -- whether terms, number of accounts, earliest interval or carried cents are out of range, or so many bytes too few
 abbrev pub standingOutside : Terms → ℕ → ℕ → ℕ → ℕ → Bool
 standingOutside t n bytes earliest carried =
-    termsOutside t || outside 1 mostIds n || ltb bytes (ledgerBytes n)
+    ledgerTermsOutside t || outside 1 mostIds n || ltb bytes (ledgerBytes n)
     || ltb (intervalsPerDay * t .days) earliest || ltb mostCents carried
 
 module _ (t : Terms) (n bytes earliest carried : ℕ) where
   -- where no other test holds, the carried cents decide
-  pub carried-decides : termsOutside t ≡ false → 1 ≤ n → n ≤ mostIds → ledgerBytes n ≤ bytes
+  pub carried-decides : ledgerTermsOutside t ≡ false → 1 ≤ n → n ≤ mostIds → ledgerBytes n ≤ bytes
       → earliest ≤ intervalsPerDay * t .days
       → standingOutside t n bytes earliest carried ≡ ltb mostCents carried
   carried-decides terms some few room early =
@@ -203,7 +221,7 @@ pub ground-6-is : (b : List ℕ) → notALedger b ≡ (unlaid b || standingRefus
 unfolding notALedger
 ground-6-is b =
     let l = ledgerOf b in
-    regrouped (unlaid b) (termsOutside (l .terms)) (outside 1 mostIds (accountCount b)) (idsOutOfOrder (idsIn l))
+    regrouped (unlaid b) (ledgerTermsOutside (l .terms)) (outside 1 mostIds (accountCount b)) (idsOutOfOrder (idsIn l))
     (ltb (length b) (ledgerBytes (accountCount b)))
     (ltb (intervalsPerDay * l .terms .days) (l .earliest)) (ltb mostCents (l .carried))
     (any (accountOutside (l .terms)) (l .accounts)) (doesNotClose l)
@@ -237,7 +255,7 @@ module _ (b : List ℕ) where
 
 -- no other test holds, so the sums decide
 pub sums-decide : (b : List ℕ) → ledgerHeaderBytes ≤ length b → notLaidOut b ≡ false
-    → termsOutside (ledgerOf b .terms) ≡ false
+    → ledgerTermsOutside (ledgerOf b .terms) ≡ false
     → 1 ≤ accountCount b → accountCount b ≤ mostIds → idsOutOfOrder (idsIn (ledgerOf b)) ≡ false
     → ledgerBytes (accountCount b) ≤ length b
     → ledgerOf b .earliest ≤ intervalsPerDay * ledgerOf b .terms .days → ledgerOf b .carried ≤ mostCents

@@ -8,7 +8,7 @@ use lib.ListN.{getD}
 use lib.Dec.{eqb}
 use Rattle.words.specs.Words.{written}
 use Rattle.words.specs.Grounds.{answered}
-use Rattle.reading.specs.Block.{blockOf, notABlock, termsOutside, idsMisplaced, idsOutOfOrder}
+use Rattle.reading.specs.Block.{blockWords, blockOf, notABlock, termsOutside, yearUnknown, idsMisplaced, idsOutOfOrder}
 use Rattle.ledger.specs.Ledger.{ledgerWords}
 use Rattle.ledger.specs.Opening.{OpeningAnswer, ledgerTooShort, openingGrounds, openedLedger, opening}
 use Rattle.ledger.specs.Figures.{buffer, blockWith, listingBlock}
@@ -64,6 +64,7 @@ groundsSwapped block ledger =
     (notABlock block, 1)
     ∷ (idsMisplaced block, 3)
     ∷ (termsOutside (blockOf block .terms), 2)
+    ∷ (yearUnknown (blockWords block), 23)
     ∷ (idsOutOfOrder (blockOf block .ids), 4)
     ∷ (ledgerTooShort block ledger, 5)
     ∷ [] in

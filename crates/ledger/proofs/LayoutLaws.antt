@@ -44,27 +44,8 @@ module _ (b : List ℕ) where
     format-other h = rw (le-ltb (length b) ledgerHeaderBytes long, ← e₀, ne-eqb format ledgerFormat h)
 
     module _ (is : format ≡ ledgerFormat) (offset : ℕ) (e₆ : offset ≡ numberAt 8 b 48) where
-      -- or whose word 6 is not the accounts' offset
-      pub offset-other : (offset ≡ accountsOffset → ⊥) → unlaid b ≡ true
+      -- with word 0 as laid out, word 6 decides: it must be the accounts' offset
+      pub offset-decides : unlaid b ≡ not (eqb offset accountsOffset)
       unfolding notLaidOut word64
-      offset-other h =
-          rw (
-            le-ltb (length b) ledgerHeaderBytes long,
-            ← e₀,
-            ← e₆,
-            eq-eqb format ledgerFormat is,
-            ne-eqb offset accountsOffset h,
-          )
-
-      -- with words 0 and 6 as laid out, word 7 decides: it must be 0
-      pub last-decides : (last : ℕ) → last ≡ numberAt 8 b 56 → offset ≡ accountsOffset → unlaid b ≡ not (eqb last 0)
-      unfolding notLaidOut word64
-      last-decides last e₇ h =
-          rw (
-            le-ltb (length b) ledgerHeaderBytes long,
-            ← e₀,
-            ← e₆,
-            ← e₇,
-            eq-eqb format ledgerFormat is,
-            eq-eqb offset accountsOffset h,
-          )
+      offset-decides =
+          rw (le-ltb (length b) ledgerHeaderBytes long, ← e₀, ← e₆, eq-eqb format ledgerFormat is)

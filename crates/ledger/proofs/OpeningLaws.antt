@@ -1,6 +1,6 @@
 -- What the tests that opening makes say of its answer, and what it writes.
 use Prim.Native.Nat.{ℕ, _+_, _≤_, _<_}
-use mathlib.Core.Path.{_≡_, sym, ap, ap₂, _∙_}
+use mathlib.Core.Path.{_≡_, sym, ap, ap₂, subst, _∙_}
 use mathlib.Core.List.{List, [], _∷_, map}
 use mathlib.Core.Bool.{true, false}
 use native.Mathlib.Omega.{arith}
@@ -9,7 +9,17 @@ use borrow.Author.Tests.{lt-ltb, le-ltb, ne-eqb}
 use Rattle.words.specs.Words.{written, writtenAt}
 use Rattle.words.specs.Grounds.{answered}
 use Rattle.words.proofs.Access.{written-behind}
-use Rattle.reading.specs.Block.{Terms, blockWords, blockOf, notABlock, termsOutside, idsMisplaced, idsOutOfOrder}
+use Rattle.reading.specs.Block.{
+  Terms,
+  blockHeaderBytes,
+  blockWords,
+  blockOf,
+  notABlock,
+  termsOutside,
+  yearUnknown,
+  idsMisplaced,
+  idsOutOfOrder,
+}
 use Rattle.reading.specs.Values.{termsIn, blockIn, Listed}
 use Rattle.reading.specs.declared.block.Block.{Block as BlockValue}
 use Rattle.reading.proofs.Facts.{block-read, terms-of-block, length-listed}
@@ -52,29 +62,41 @@ module _ (b l : List ℕ) where
     opening-2 e = rw (e₁, sym (ap termsOutside own) ∙ e)
 
     module _ (e₂ : termsOutside (termsIn (v .terms)) ≡ false) where
-      -- past ground 2, a wrong number or place of the ids is answered 3
-      pub opening-3 : idsMisplaced b ≡ true → answered (openingGrounds b l) ≡ 3
+      -- past ground 2, a year that no block may name is answered 23
+      pub opening-23 : yearUnknown (blockIn v) ≡ true → answered (openingGrounds b l) ≡ 23
       unfolding answered openingGrounds
-      opening-3 e = rw (e₁, sym (ap termsOutside own) ∙ e₂, e)
+      opening-23 e = rw (e₁, sym (ap termsOutside own) ∙ e₂, sym (ap yearUnknown says) ∙ e)
 
-      module _ (e₃ : idsMisplaced b ≡ false) where
-        -- past ground 3, ids out of order are answered 4
-        pub opening-4 : idsOutOfOrder (blockOf b .ids) ≡ true → answered (openingGrounds b l) ≡ 4
+      module _ (known : yearUnknown (blockIn v) ≡ false) where
+        -- ground 23 does not apply to the block
+        e₂₃ : yearUnknown (blockWords b) ≡ false
+        e₂₃ = sym (ap yearUnknown says) ∙ known
+
+        -- past ground 23, a wrong number or place of the ids is answered 3
+        pub opening-3 : idsMisplaced b ≡ true → answered (openingGrounds b l) ≡ 3
         unfolding answered openingGrounds
-        opening-4 e = rw (e₁, sym (ap termsOutside own) ∙ e₂, e₃, e)
+        opening-3 e = rw (e₁, sym (ap termsOutside own) ∙ e₂, e₂₃, e)
 
-        module _ (e₄ : idsOutOfOrder (blockOf b .ids) ≡ false) where
-          -- past ground 4, a ledger buffer too short for the ids is answered 5
-          pub opening-5 : length l < ledgerBytes (v .ids) → answered (openingGrounds b l) ≡ 5
-          unfolding answered openingGrounds ledgerTooShort
-          opening-5 h =
-              rw (e₁, sym (ap termsOutside own) ∙ e₂, e₃, e₄, ← count, lt-ltb (length l) (ledgerBytes (v .ids)) h)
+        module _ (e₃ : idsMisplaced b ≡ false) where
+          -- past ground 3, ids out of order are answered 4
+          pub opening-4 : idsOutOfOrder (blockOf b .ids) ≡ true → answered (openingGrounds b l) ≡ 4
+          unfolding answered openingGrounds
+          opening-4 e = rw (e₁, sym (ap termsOutside own) ∙ e₂, e₂₃, e₃, e)
 
-          -- and one with room for them 0
-          pub opening-0 : ledgerBytes (v .ids) ≤ length l → answered (openingGrounds b l) ≡ 0
-          unfolding answered openingGrounds ledgerTooShort
-          opening-0 h =
-              rw (e₁, sym (ap termsOutside own) ∙ e₂, e₃, e₄, ← count, le-ltb (length l) (ledgerBytes (v .ids)) h)
+          module _ (e₄ : idsOutOfOrder (blockOf b .ids) ≡ false) where
+            -- past ground 4, a ledger buffer too short for the ids is answered 5
+            pub opening-5 : length l < ledgerBytes (v .ids) → answered (openingGrounds b l) ≡ 5
+            unfolding answered openingGrounds ledgerTooShort
+            opening-5 h =
+                let short = lt-ltb (length l) (ledgerBytes (v .ids)) h in
+                rw (e₁, sym (ap termsOutside own) ∙ e₂, e₂₃, e₃, e₄, ← count, short)
+
+            -- and one with room for them 0
+            pub opening-0 : ledgerBytes (v .ids) ≤ length l → answered (openingGrounds b l) ≡ 0
+            unfolding answered openingGrounds ledgerTooShort
+            opening-0 h =
+                let room = le-ltb (length l) (ledgerBytes (v .ids)) h in
+                rw (e₁, sym (ap termsOutside own) ∙ e₂, e₂₃, e₃, e₄, ← count, room)
 
 -- where no ground applies, the ids of a value that says the block's words lie within the block
 pub accepted-listed : (b l : List ℕ) (v : BlockValue) → answered (openingGrounds b l) ≡ 0 → blockIn v ≡ blockWords b
@@ -85,7 +107,7 @@ accepted-listed b l v e says =
     let count = ap (λ w. w .idCount) says in
     let place = ap (λ w. w .idsOffset) says in
     record {
-      read = record { long = a .header; says = says };
+      read = record { long = subst (λ w. blockHeaderBytes (w .format) ≤ length b) (sym says) (a .header); says = says };
       few = omega (arith, a .few, count);
       ids-lie = omega (arith, a .placed, count, place);
     }
@@ -146,4 +168,4 @@ opened-written block b x y v listed room header accounts =
     sym (length-map (blockOf block .ids) emptyAccount ∙ length-listed listed) in
     let own : termsIn (v .terms) ≡ blockOf block .terms = terms-of-block (listed .read) in
     written-behind (standingWords (openedStanding v)) new b x y room header accounts
-    ∙ ap₂ (λ (t : Terms) n. written (1 ∷ t .netCone ∷ t .days ∷ 0 ∷ 0 ∷ n ∷ 8 ∷ 0 ∷ new) b) own all
+    ∙ ap₂ (λ (t : Terms) n. written (1 ∷ t .netCone ∷ t .days ∷ 0 ∷ 0 ∷ n ∷ 8 ∷ t .year ∷ new) b) own all

@@ -1,13 +1,13 @@
 -- The ledger: its layout, and ground 6.
 use Prim.Native.Nat.{ℕ, _+_, _*_}
 use mathlib.Core.List.{List, [], _∷_, _++_, map}
-use mathlib.Core.Bool.{Bool, not, _||_}
+use mathlib.Core.Bool.{Bool, not, _||_, _&&_}
 use lib.ListN.{length, drop}
 use lib.Dec.{ltb, eqb}
 use Rattle.words.specs.Lists.{sum, any}
 use Rattle.words.specs.Words.{word64, entries}
 use Rattle.words.specs.Grounds.{outside}
-use Rattle.reading.specs.Block.{Terms, mostIds, termsOutside, idsOutOfOrder}
+use Rattle.reading.specs.Block.{Terms, mostIds, termsOutside, yearOutside, idsOutOfOrder}
 use Rattle.reading.specs.Interval.{intervalsPerDay, mostKilowatts}
 use Rattle.assessment.specs.Assessment.{mostCents, Account, limit}
 
@@ -31,7 +31,7 @@ accountsOffset = 8
 abbrev pub mostCredited : ℕ
 mostCredited = 224870400000000
 
--- what stands before the accounts: terms, the earliest interval still accepted, carried cents, and the number of accounts
+-- what stands before the accounts: terms, with the year in word 7, the earliest interval still accepted, carried cents, and the number of accounts
 pub record Standing : Type 0 where
   pub terms : Terms
   pub earliest : ℕ
@@ -41,7 +41,7 @@ pub record Standing : Type 0 where
 -- what stands before the accounts of a buffer
 unfoldable pub standingOf : List ℕ → Standing
 standingOf b = record {
-  terms = record { netCone = word64 b 1; days = word64 b 2 };
+  terms = record { netCone = word64 b 1; days = word64 b 2; year = word64 b 7 };
   earliest = word64 b 3;
   carried = word64 b 4;
   accountCount = word64 b 5;
@@ -85,7 +85,8 @@ accountWords (a ∷ rest) = a .id ∷ a .largest ∷ a .charged ∷ a .credited 
 -- the eight words before the accounts
 unfoldable pub standingWords : Standing → List ℕ
 standingWords s =
-    ledgerFormat ∷ s .terms .netCone ∷ s .terms .days ∷ s .earliest ∷ s .carried ∷ s .accountCount ∷ accountsOffset ∷ 0 ∷ []
+    ledgerFormat ∷ s .terms .netCone ∷ s .terms .days ∷ s .earliest ∷ s .carried ∷ s .accountCount ∷ accountsOffset
+    ∷ s .terms .year ∷ []
 
 -- the words of a ledger: the header's eight, then each account's four
 unfoldable pub ledgerWords : Ledger → List ℕ
@@ -97,9 +98,13 @@ ledgerWords l =
 unfoldable pub idsIn : Ledger → List ℕ
 idsIn l = map (λ a. a .id) (l .accounts)
 
--- word 0, 6 or 7 is not as laid out
+-- word 0 or 6 is not as laid out
 unfoldable pub notLaidOut : List ℕ → Bool
-notLaidOut b = not (eqb (word64 b 0) ledgerFormat) || not (eqb (word64 b 6) accountsOffset) || not (eqb (word64 b 7) 0)
+notLaidOut b = not (eqb (word64 b 0) ledgerFormat) || not (eqb (word64 b 6) accountsOffset)
+
+-- terms that no ledger has: against ground 2, or with a year other than 0 that no block may name
+unfoldable pub ledgerTermsOutside : Terms → Bool
+ledgerTermsOutside t = termsOutside t || (not (eqb (t .year) 0) && yearOutside t)
 
 -- an account's commitment, charged sum or credited sum is too large
 unfoldable pub accountOutside : Terms → Account → Bool
@@ -109,12 +114,12 @@ accountOutside t a = ltb mostKilowatts (a .largest) || ltb (limit t (a .largest)
 unfoldable pub doesNotClose : Ledger → Bool
 doesNotClose l = not (eqb (sum (λ a. a .charged) (l .accounts)) (sum (λ a. a .credited) (l .accounts) + l .carried))
 
--- ground 6: the length, words 0, 6 and 7, terms, number of ids and ids (of 64 bits) as grounds 2 to 4 have them, the accounts' bytes, word 3, carried, accounts, sums
+-- ground 6: the length, words 0 and 6, terms with the year, number of ids and ids (of 64 bits) as grounds 2, 23, 3 and 4 have them, the accounts' bytes, word 3, carried, accounts, sums
 unfoldable pub notALedger : List ℕ → Bool
 notALedger b =
     let l = ledgerOf b in
     ltb (length b) ledgerHeaderBytes || notLaidOut b
-    || termsOutside (l .terms) || outside 1 mostIds (accountCount b) || idsOutOfOrder (idsIn l)
+    || ledgerTermsOutside (l .terms) || outside 1 mostIds (accountCount b) || idsOutOfOrder (idsIn l)
     || ltb (length b) (ledgerBytes (accountCount b))
     || ltb (intervalsPerDay * l .terms .days) (l .earliest) || ltb mostCents (l .carried)
     || any (accountOutside (l .terms)) (l .accounts) || doesNotClose l

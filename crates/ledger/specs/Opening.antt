@@ -1,4 +1,4 @@
--- A call of opening: grounds 1 to 5, its answer, and the ledger that it leaves.
+-- A call of opening: grounds 1 to 5 and 23, its answer, and the ledger that it leaves.
 use Prim.Native.Nat.{ℕ}
 use mathlib.Core.List.{List, [], _∷_, map}
 use mathlib.Core.Bool.{Bool, cond}
@@ -6,7 +6,7 @@ use lib.ListN.{length}
 use lib.Dec.{ltb, eqb}
 use Rattle.words.specs.Words.{written}
 use Rattle.words.specs.Grounds.{answered}
-use Rattle.reading.specs.Block.{blockWords, blockOf, notABlock, termsOutside, idsMisplaced, idsOutOfOrder}
+use Rattle.reading.specs.Block.{blockWords, blockOf, notABlock, termsOutside, yearUnknown, idsMisplaced, idsOutOfOrder}
 use Rattle.assessment.specs.Assessment.{emptyAccount}
 use Rattle.ledger.specs.Ledger.{Ledger, ledgerBytes, ledgerWords}
 
@@ -14,11 +14,12 @@ use Rattle.ledger.specs.Ledger.{Ledger, ledgerBytes, ledgerWords}
 unfoldable pub ledgerTooShort : List ℕ → List ℕ → Bool
 ledgerTooShort block ledger = ltb (length ledger) (ledgerBytes (blockWords block .idCount))
 
--- grounds 1 to 5, in checking order
+-- grounds 1, 2, 23, 3, 4 and 5, in checking order
 unfoldable pub openingGrounds : List ℕ → List ℕ → List (Bool × ℕ)
 openingGrounds block ledger =
     (notABlock block, 1)
     ∷ (termsOutside (blockOf block .terms), 2)
+    ∷ (yearUnknown (blockWords block), 23)
     ∷ (idsMisplaced block, 3)
     ∷ (idsOutOfOrder (blockOf block .ids), 4)
     ∷ (ledgerTooShort block ledger, 5)

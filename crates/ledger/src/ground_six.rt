@@ -12,6 +12,7 @@ use assessment::units::Cents;
 use reading::block::MOST_IDS;
 use reading::block::Terms;
 use reading::block::terms_outside;
+use reading::block::year_outside;
 use reading::header::INTERVALS_PER_DAY;
 ghost use mathlib.Core.Path.{_≡_};
 ghost use mathlib.Core.Bool.{false, _||_};
@@ -25,7 +26,7 @@ ghost use Rattle.reading.specs.Interval.{intervalsPerDay};
 ghost use Rattle.reading.specs.Values.{termsIn};
 ghost use Rattle.assessment.specs.Assessment.{mostCents};
 ghost use Rattle.assessment.specs.Values.{accountIn};
-ghost use Rattle.ledger.specs.Ledger.{standingOf, ledgerBytes, ledgerOf, idsIn, accountOutside, doesNotClose, notALedger};
+ghost use Rattle.ledger.specs.Ledger.{standingOf, ledgerBytes, ledgerOf, idsIn, ledgerTermsOutside, accountOutside, doesNotClose, notALedger};
 ghost use Rattle.ledger.specs.Values.{standingIn};
 
 // The most cents carried, and so of a pool.
@@ -33,14 +34,27 @@ pub const MOST_CARRIED: Cents = Cents(1099511627775);
 
 const MOST_CREDITED: Cents = Cents(224870400000000);
 
+// Whether no ledger has these terms: as ground 2 has them, and a year, other than 0, as ground 23 does.
+fn terms_refused(terms: Terms) -> bool
+    ensures { λ r. ⌜ r ≡ ledgerTermsOutside (termsIn terms) ⌝ }
+{
+    if terms_outside(terms) {
+        return true;
+    }
+    if terms.year == 0 {
+        return false;
+    }
+    year_outside(terms)
+}
+
 // Whether the terms, the number of accounts, the earliest interval or the cents carried are out of range, or the accounts do not fit.
 fn standing_outside(ledger: &[u8], s: Standing) -> bool
     ensures { λ r.
-        ⌜ r ≡ (termsOutside (termsIn (s .terms)) || outside 1 mostIds (s .accounts) || ltb (length (now (ledger .entry))) (ledgerBytes (s .accounts))
+        ⌜ r ≡ (ledgerTermsOutside (termsIn (s .terms)) || outside 1 mostIds (s .accounts) || ltb (length (now (ledger .entry))) (ledgerBytes (s .accounts))
         || ltb (intervalsPerDay * s .terms .days) (s .earliest) || ltb mostCents (s .carried .0)) ⌝ }
 {
     let terms = s.terms;
-    if terms_outside(terms) {
+    if terms_refused(terms) {
         return true;
     }
     if s.accounts < 1 {

@@ -46,7 +46,7 @@ pub fn ledger_bytes(accounts: usize) -> usize
     STANDING_BYTES + ACCOUNT_BYTES * accounts
 }
 
-// Whether a buffer is too short for what stands before the accounts, or word 0, 6 or 7 is not as laid out.
+// Whether a buffer is too short for what stands before the accounts, or word 0 or 6 is not as laid out.
 pub fn not_laid_out(ledger: &[u8]) -> bool
     ensures { λ r. ⌜ r ≡ (ltb (length (now (ledger .entry))) ledgerHeaderBytes || notLaidOut (now (ledger .entry))) ⌝ }
 {
@@ -56,10 +56,7 @@ pub fn not_laid_out(ledger: &[u8]) -> bool
     if number64(ledger, 0) != LEDGER_FORMAT {
         return true;
     }
-    if number64(ledger, 48) != ACCOUNTS_OFFSET {
-        return true;
-    }
-    number64(ledger, 56) != 0
+    number64(ledger, 48) != ACCOUNTS_OFFSET
 }
 
 // What stands before the accounts.
@@ -70,6 +67,7 @@ pub fn standing_of(ledger: &[u8]) -> Standing
     let terms = Terms {
         net_cone: number64(ledger, 8),
         days: number64(ledger, 16),
+        year: number64(ledger, 56),
     };
     Standing {
         terms,
@@ -115,7 +113,7 @@ pub fn write_standing(ledger: &mut [u8], s: Standing)
         s.carried.0,
         s.accounts as u64,
         ACCOUNTS_OFFSET,
-        0,
+        terms.year,
     ];
     store64(&words, ledger);
 }

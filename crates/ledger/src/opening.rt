@@ -13,19 +13,20 @@ use reading::block::ids_misplaced;
 use reading::block::ids_out_of_order;
 use reading::block::not_a_block;
 use reading::block::terms_outside;
+use reading::block::year_unknown;
 ghost use mathlib.Core.Path.{_≡_};
 ghost use mathlib.Core.List.{map};
 ghost use Prim.Native.Nat.{_≤_};
 ghost use lib.ListN.{length};
 ghost use Rattle.words.specs.Words.{written, writtenAt};
 ghost use Rattle.words.specs.Grounds.{answered};
-ghost use Rattle.reading.specs.Block.{blockHeaderBytes, blockWords, blockOf};
+ghost use Rattle.reading.specs.Block.{blockWords, blockOf};
 ghost use Rattle.reading.specs.Values.{Listed};
 ghost use Rattle.assessment.specs.Assessment.{emptyAccount};
 ghost use Rattle.ledger.specs.Ledger.{ledgerHeaderBytes, ledgerBytes, accountWords, ledgerWords};
 ghost use Rattle.ledger.specs.Opening.{openingGrounds, openedLedger, opening as openingOf};
 
-// The first of grounds 1 to 5 that applies, or 0.
+// The first of grounds 1, 2, 23, 3, 4 and 5 that applies, or 0.
 fn opening_ground(block: &[u8], ledger: &[u8]) -> u32
     ensures { λ r. ⌜ r ≡ answered (openingGrounds (now (block .entry)) (now (ledger .entry))) ⌝ }
 {
@@ -36,6 +37,9 @@ fn opening_ground(block: &[u8], ledger: &[u8]) -> u32
     let terms = b.terms;
     if terms_outside(terms) {
         return 2;
+    }
+    if year_unknown(b) {
+        return 23;
     }
     if ids_misplaced(block, b) {
         return 3;
@@ -80,7 +84,7 @@ fn write_opened(block: &[u8], b: Block, ledger: &mut [u8])
     write_accounts(block, b, ledger);
 }
 
-// Opens a ledger: answers 0, or the first ground of 1 to 5 that applies and leaves the ledger as it was.
+// Opens a ledger: answers 0, or the first ground of opening that applies and leaves the ledger as it was.
 pub fn open(block: &[u8], ledger: &mut [u8]) -> u32
     ensures answer { λ r. ⌜ r ≡ openingOf (now (block .entry)) (now (ledger .entry)) .ground ⌝ }
     ensures buffer { λ r. ⌜ now (ledger .exit) ≡ openingOf (now (block .entry)) (now (ledger .entry)) .ledger ⌝ }

@@ -87,7 +87,7 @@ fn year_named(block: &[u8]) -> u64
 
 // The values of a block that ground 1 does not refuse.
 pub fn block_of(block: &[u8]) -> Block
-    requires { ⌜ blockHeaderBytes (word32 (now block) 0) ≤ length (now block) ⌝ }
+    requires { ⌜ blockHeaderBytes (blockWords (now block) .format) ≤ length (now block) ⌝ }
     ensures { λ r. ⌜ blockIn r ≡ blockWords (now (block .entry)) ⌝ }
 {
     let terms = Terms {

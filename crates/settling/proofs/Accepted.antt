@@ -36,12 +36,12 @@ use Rattle.settling.specs.Settling.{
   settling,
 }
 use Rattle.settling.specs.Values.{Passed}
-use Rattle.settling.proofs.SettlingTests.{same-terms, unrefused, passed, none-before, before-later}
+use Rattle.settling.proofs.SettlingTests.{same-days, unrefused, passed, none-before, before-later}
 
 -- the value that says what a ledger's standing does
 abbrev pub standingSaid : Standing → StandingValue
 standingSaid s = record {
-  terms = record { «net_cone» = s .terms .netCone; days = s .terms .days };
+  terms = record { «net_cone» = s .terms .netCone; days = s .terms .days; year = s .terms .year };
   earliest = s .earliest;
   carried = record { 0 = s .carried };
   accounts = s .accountCount;
@@ -52,7 +52,8 @@ abbrev pub headerSaid : Header → HeaderValue
 headerSaid h = record {
   format = h .format;
   interval = h .interval;
-  terms = record { «net_cone» = h .terms .netCone; days = h .terms .days };
+  «net_cone» = h .netCone;
+  days = h .days;
   «region_wide» = h .regionWide;
   imports = h .imports;
   rows = h .rowCount;
@@ -67,7 +68,7 @@ pub record Accepted (ledger file result : List ℕ) : Type 0 where
   pub ledger-is : LedgerIn (ledgerOf ledger)
   pub passed : Passed ledger (standingSaid (standingOf ledger)) file (headerSaid (headerOf file))
   pub header : HeaderIn (headerOf file)
-  pub days : headerOf file .terms .days ≡ ledgerOf ledger .terms .days
+  pub days : headerOf file .days ≡ ledgerOf ledger .terms .days
   pub rows-few : length (rowsOf file) ≤ mostRows
   pub ids-rise : rises (map (λ r. r .id) (rowsOf file)) ≡ true
   pub ids-known : (r : Row) → List·Memᴰ r (rowsOf file) → any (λ id. eqb id (r .id)) (idsIn (ledgerOf ledger)) ≡ true
@@ -129,7 +130,7 @@ accepted ledger file result e =
       ledger-is = ledger-in ledger (n .ledger-holds);
       passed = p;
       header = header-in (headerOf file) (u .header);
-      days = ap (λ t. t .days) (same-terms (ledgerOf ledger .terms) (headerOf file .terms) (u .terms));
+      days = same-days (ledgerOf ledger .terms) (headerOf file) (u .terms);
       rows-few = omega (arith, length-tabled (p .tabled), p .tabled .rows-few);
       ids-rise = rows-rise (ledgerOf ledger) (rowsOf file) (p .known);
       ids-known = rows-known (ledgerOf ledger) (rowsOf file) (p .known);

@@ -3,6 +3,7 @@ use Prim.Native.Nat.{ℕ, _≤_, _<_}
 use mathlib.Core.Path.{_≡_, refl, sym, ap, ap₂, _∙_}
 use mathlib.Core.List.{List, [], _∷_, _++_}
 use mathlib.Core.Bool.{Bool, true, false, cond, not, true≢false}
+use native.Mathlib.Omega.{arith}
 use lib.ListN.{length}
 use lib.Dec.{ltb, eqb}
 use borrow.Author.Tests.{lt-ltb, le-ltb, eqb-true, eqb-false, eq-eqb, ne-eqb}
@@ -10,8 +11,9 @@ use Rattle.words.specs.Lists.{any}
 use Rattle.words.specs.Grounds.{answered}
 use Rattle.words.proofs.Tests.{facts, not-first, not-second}
 use Rattle.words.proofs.Grounds.{none-applies}
-use Rattle.reading.specs.Block.{Terms, termsOutside}
+use Rattle.reading.specs.Block.{Terms, leapYear}
 use Rattle.reading.specs.Interval.{
+  Header,
   headerOf,
   rowsOf,
   notAFile,
@@ -21,6 +23,7 @@ use Rattle.reading.specs.Interval.{
 }
 use Rattle.reading.specs.Values.{termsIn, headerIn, HeaderRead, Scanned}
 use Rattle.reading.specs.declared.header.Header.{Header as HeaderValue}
+use Rattle.reading.proofs.Bounds.{terms-in}
 use Rattle.reading.proofs.Facts.{header-read, tabled, row-count}
 use Rattle.ledger.specs.Ledger.{standingOf, ledgerOf, notALedger}
 use Rattle.ledger.specs.Values.{standingIn, LedgerRead}
@@ -73,29 +76,26 @@ answered-later (g ∷ gs) later k e = by (g .0) e (answered-later gs later other
     by false q rest = rest q
 
 -- where Net CONE differs, ground 8 refuses
-pub cone-other : (t u : Terms) → (u .netCone ≡ t .netCone → ⊥) → otherTerms t u ≡ true
+pub cone-other : (t : Terms) (u : Header) → (u .netCone ≡ t .netCone → ⊥) → otherTerms t u ≡ true
 unfolding otherTerms
 cone-other t u h = rw (ne-eqb (u .netCone) (t .netCone) h)
 
 -- where it is the same, ground 8 refuses just if the days differ
-pub days-decide : (t u : Terms) → u .netCone ≡ t .netCone → otherTerms t u ≡ not (eqb (u .days) (t .days))
+pub days-decide : (t : Terms) (u : Header) → u .netCone ≡ t .netCone → otherTerms t u ≡ not (eqb (u .days) (t .days))
 unfolding otherTerms
 days-decide t u h = rw (eq-eqb (u .netCone) (t .netCone) h)
 
--- where ground 8 does not refuse, a file has the terms of the ledger
-pub same-terms : (t u : Terms) → otherTerms t u ≡ false → u ≡ t
+-- where ground 8 does not refuse, a file has the days of the ledger
+pub same-days : (t : Terms) (u : Header) → otherTerms t u ≡ false → u .days ≡ t .days
 unfolding otherTerms
-same-terms t u e =
-    let cone : u .netCone ≡ t .netCone = search facts in
-    let days : u .days ≡ t .days = search facts in
-    λ i. record { netCone = cone i; days = days i }
+same-days t u e = search facts
 
 -- values read from a ledger and a file that grounds 6 and 7 do not refuse, and a result buffer
 module _ (l f r : List ℕ) {s : StandingValue} {h : HeaderValue} (ledger : LedgerRead l s) (file : HeaderRead f h) where
   -- the terms of the values differ just where ground 8 refuses
-  terms-said : otherTerms (ledgerOf l .terms) (headerOf f .terms) ≡ otherTerms (termsIn (s .terms)) (termsIn (h .terms))
-  unfolding ledgerOf standingIn headerIn
-  terms-said = ap₂ otherTerms (ap (λ s. s .terms) (sym (ledger .says))) (ap (λ h. h .terms) (sym (file .says)))
+  terms-said : otherTerms (ledgerOf l .terms) (headerOf f) ≡ otherTerms (termsIn (s .terms)) (headerIn h)
+  unfolding ledgerOf standingIn
+  terms-said = ap₂ otherTerms (ap (λ s. s .terms) (sym (ledger .says))) (sym (file .says))
 
   -- ground 9 goes by the header's values
   header-said : headerOutside (headerOf f) ≡ headerOutside (headerIn h)
@@ -112,14 +112,17 @@ module _ (l f r : List ℕ) {s : StandingValue} {h : HeaderValue} (ledger : Ledg
   room-said = ap (λ n. ltb (length r) (resultBytes n)) (sym (row-count file))
 
   -- terms other than the ledger's are answered 8
-  pub later-8 : otherTerms (termsIn (s .terms)) (termsIn (h .terms)) ≡ true → answered (laterGrounds l f r) ≡ 8
+  pub later-8 : otherTerms (termsIn (s .terms)) (headerIn h) ≡ true → answered (laterGrounds l f r) ≡ 8
   unfolding answered laterGrounds
   later-8 e = rw (terms-said, e)
 
-  module _ (e₈ : otherTerms (termsIn (s .terms)) (termsIn (h .terms)) ≡ false) where
-    -- with the ledger's terms, those of a file are in range
-    pub terms-inside : termsOutside (termsIn (h .terms)) ≡ false
-    terms-inside = ap termsOutside (same-terms (termsIn (s .terms)) (termsIn (h .terms)) e₈) ∙ ledger .terms
+  module _ (e₈ : otherTerms (termsIn (s .terms)) (headerIn h) ≡ false) where
+    -- with the ledger's days, a file has those of a year
+    pub days-inside : h .days ≤ leapYear
+    unfolding headerIn
+    days-inside =
+        let t = termsIn (s .terms) in
+        omega (arith, terms-in t (ledger .terms) .days, same-days t (headerIn h) e₈)
 
     -- past ground 8, a header out of range is answered 9
     pub later-9 : headerOutside (headerIn h) ≡ true → answered (laterGrounds l f r) ≡ 9
@@ -176,7 +179,7 @@ module _ (l f r : List ℕ) {s : StandingValue} {h : HeaderValue} (ledger : Ledg
 
 -- a ledger, a file and a result buffer that grounds 8 to 15 do not refuse
 pub record Unrefused (l f r : List ℕ) : Type 0 where
-  pub terms : otherTerms (ledgerOf l .terms) (headerOf f .terms) ≡ false
+  pub terms : otherTerms (ledgerOf l .terms) (headerOf f) ≡ false
   pub header : headerOutside (headerOf f) ≡ false
   pub tables : tablesMisplaced f ≡ false
   pub ids : rowIdsUnknown (ledgerOf l) (rowsOf f) ≡ false

@@ -8,7 +8,7 @@ use Rattle.words.specs.Lists.{any, rises}
 use Rattle.words.specs.Words.{written}
 use Rattle.words.specs.Grounds.{answered}
 use Rattle.reading.specs.Block.{Terms}
-use Rattle.reading.specs.Interval.{Row, headerOf, rowsOf, notAFile, headerOutside, tablesMisplaced, rowGrounds}
+use Rattle.reading.specs.Interval.{Header, Row, headerOf, rowsOf, notAFile, headerOutside, tablesMisplaced, rowGrounds}
 use Rattle.assessment.specs.Assessment.{
   mostCents,
   Account,
@@ -67,8 +67,8 @@ assessedFile ledger file =
     let l = ledgerOf ledger in
     assessed (l .terms) (l .accounts) (l .carried) (headerOf file) (rowsOf file)
 
--- ground 8: Net CONE or days of a file differ from those of a ledger
-unfoldable pub otherTerms : Terms → Terms → Bool
+-- ground 8: Net CONE or days of a file differ from those of a ledger; a file has no year
+unfoldable pub otherTerms : Terms → Header → Bool
 otherTerms ledger file = not (eqb (file .netCone) (ledger .netCone)) || not (eqb (file .days) (ledger .days))
 
 -- ground 10: the interval is before the earliest that the ledger accepts, its word 3
@@ -98,7 +98,7 @@ poolTooLarge v = ltb mostCents (pool v)
 -- grounds 8 to 15, of a ledger and a file that hold what their formats say, in checking order
 unfoldable pub laterGrounds : List ℕ → List ℕ → List ℕ → List (Bool × ℕ)
 laterGrounds ledger file result =
-    (otherTerms (ledgerOf ledger .terms) (headerOf file .terms), 8)
+    (otherTerms (ledgerOf ledger .terms) (headerOf file), 8)
     ∷ (headerOutside (headerOf file), 9)
     ∷ (tooEarly ledger file, 10)
     ∷ (tablesMisplaced file, 11)

@@ -12,21 +12,20 @@ ghost use mathlib.Core.Path.{_≡_};
 ghost use lib.ListN.{length};
 ghost use Rattle.words.specs.Grounds.{answered};
 ghost use Rattle.reading.specs.Interval.{rowsOf};
-ghost use Rattle.reading.specs.Values.{termsIn, HeaderRead, Tabled};
+ghost use Rattle.reading.specs.Values.{termsIn, headerIn, HeaderRead, Tabled};
 ghost use Rattle.ledger.specs.Ledger.{ledgerOf};
 ghost use Rattle.ledger.specs.Values.{LedgerRead};
 ghost use Rattle.settling.specs.Settling.{otherTerms, rowIdsUnknown, laterGrounds};
 
 // Ground 8.
 fn other_terms(s: Standing, h: Header) -> bool
-    ensures { λ r. ⌜ r ≡ otherTerms (termsIn (s .terms)) (termsIn (h .terms)) ⌝ }
+    ensures { λ r. ⌜ r ≡ otherTerms (termsIn (s .terms)) (headerIn h) ⌝ }
 {
     let terms = s.terms;
-    let stated = h.terms;
-    if stated.net_cone != terms.net_cone {
+    if h.net_cone != terms.net_cone {
         return true;
     }
-    stated.days != terms.days
+    h.days != terms.days
 }
 
 // Ground 12, of a ledger whose ids rise: a row whose id does not rise, or has no account, is not found before the accounts end.

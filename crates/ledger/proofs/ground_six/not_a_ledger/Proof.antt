@@ -3,6 +3,7 @@ use mathlib.Core.Path.{sym, _∙_}
 use Rattle.words.specs.Grounds.{outside}
 use Rattle.words.proofs.Tests.{facts}
 use Rattle.reading.specs.Values.{termsIn}
+use Rattle.ledger.specs.Ledger.{ledgerTermsOutside}
 use Rattle.ledger.proofs.GroundSixLaws.{layout-refuses, laid-long, standing-refuses, accounts-decide}
 use borrow.Author.Needs.{needs}
 use Rattle.ledger.proofs.ground_six.not_a_ledger.Statement.{statement}
@@ -31,7 +32,7 @@ returns-2 c =
     sym (standing-refuses b _ (read .standing-of .ensures) (c .before .standing-outside .ensures) (c .if2 .taken))
 
 accounts-refused-requires : tie.Need-accounts-refused-requires
-unfolding outside
+unfolding outside ledgerTermsOutside
 accounts-refused-requires c κs =
     let within = sym (c .before .standing-outside .ensures) ∙ c .if2 .left in
     let says = c .before .before .standing-of .ensures in

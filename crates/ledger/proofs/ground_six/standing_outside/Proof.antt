@@ -5,16 +5,17 @@ use lib.ListN.{length}
 use Rattle.reading.specs.Values.{termsIn}
 use Rattle.reading.proofs.Bounds.{terms-in}
 use Rattle.ledger.proofs.GroundSixLaws.{holds, carried-decides}
+use Rattle.ledger.proofs.Sound.{terms-of-ledger}
 use borrow.Author.Needs.{needs}
 use Rattle.ledger.proofs.ground_six.standing_outside.Statement.{statement}
 use Rattle.ledger.proofs.ground_six.standing_outside.Tie as tie
 
-terms-outside-requires : tie.Need-terms-outside-requires
-terms-outside-requires c κs = search needs
+terms-refused-requires : tie.Need-terms-refused-requires
+terms-refused-requires c κs = search needs
 
 returns : tie.Need-returns
 returns c =
-    let refuses = sym (c .before .terms-outside .ensures) ∙ c .if1 .taken in
+    let refuses = sym (c .before .terms-refused .ensures) ∙ c .if1 .taken in
     sym (search holds depth 9)
 
 returns-2 : tie.Need-returns-2
@@ -36,7 +37,8 @@ mul-if5 c =
     let start = tested .before .before .before in
     let known =
     terms-in (termsIn (start .args .s .terms))
-    (sym (tested .terms-outside .ensures) ∙ c .before .before .before .before .before .before .if1 .left) in
+    (terms-of-ledger (termsIn (start .args .s .terms))
+    (sym (tested .terms-refused .ensures) ∙ c .before .before .before .before .before .before .if1 .left)) in
     omega (arith, known .days)
 
 returns-5 : tie.Need-returns-5
@@ -57,14 +59,14 @@ returns-6 c =
     let b = start .args .ledger .now in
     c .below .ensures
     ∙ sym (carried-decides (termsIn (s .terms)) (s .accounts) (length b) (s .earliest) (s .carried .0)
-    (sym (tested .terms-outside .ensures) ∙ some .before .before .if1 .left) (omega arith) (omega arith) (omega arith)
+    (sym (tested .terms-refused .ensures) ∙ some .before .before .if1 .left) (omega arith) (omega arith) (omega arith)
     (omega arith))
 
 pub standing-outside-spec : {M : Type 1} → statement M
 standing-outside-spec =
     tie.close
     (tie.spec
-    terms-outside-requires
+    terms-refused-requires
     returns
     returns-2
     returns-3

@@ -22,17 +22,23 @@ number64-requires-4 c κs = search needs
 number64-requires-5 : tie.Need-number64-requires-5
 number64-requires-5 c κs = search needs
 
+number64-requires-6 : tie.Need-number64-requires-6
+number64-requires-6 c κs = search needs
+
 returns : tie.Need-returns
 unfolding standingIn termsIn standingOf word64
-returns c = λ x. record {
-  terms = record {
-    netCone = c .before .before .before .before .number64 .ensures x;
-    days = c .before .before .before .number642 .ensures x;
-  };
-  earliest = c .before .before .number643 .ensures x;
-  carried = c .before .number644 .ensures x;
-  accountCount = c .number645 .ensures x;
-}
+returns c =
+    let year = c .before .before .before in
+    λ x. record {
+      terms = record {
+        netCone = year .before .before .number64 .ensures x;
+        days = year .before .number642 .ensures x;
+        year = year .number643 .ensures x;
+      };
+      earliest = c .before .before .number644 .ensures x;
+      carried = c .before .number645 .ensures x;
+      accountCount = c .number646 .ensures x;
+    }
 
 pub standing-of-spec : {M : Type 1} → statement M
 standing-of-spec =
@@ -43,4 +49,5 @@ standing-of-spec =
     number64-requires-3
     number64-requires-4
     number64-requires-5
+    number64-requires-6
     returns)

@@ -11,6 +11,7 @@ use Rattle.reading.proofs.block.block_of.Tie as tie
 
 -- the block has the five words of both formats
 long : (s : tie.Start) → 20 ≤ length (s .args .block .now)
+unfolding blockWords
 long s = five-words (word32 (s .args .block .now) 0) _ (s .pre)
 
 number32-requires : tie.Need-number32-requires
@@ -20,6 +21,7 @@ number32-requires-2 : tie.Need-number32-requires-2
 number32-requires-2 c κs = omega (arith, long (c .before .before))
 
 year-named-requires : tie.Need-year-named-requires
+unfolding blockWords
 year-named-requires c κs = c .before .before .before .pre
 
 number32-requires-3 : tie.Need-number32-requires-3

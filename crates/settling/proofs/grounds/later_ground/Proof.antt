@@ -11,7 +11,7 @@ use Rattle.ledger.specs.Ledger.{ledgerOf}
 use Rattle.settling.specs.Settling.{otherTerms, rowIdsUnknown}
 use Rattle.settling.proofs.SettlingTests.{
   later-8,
-  terms-inside,
+  days-inside,
   later-9,
   later-10,
   later-11,
@@ -28,7 +28,7 @@ abbrev start : tie.Else1 → tie.Start
 start c = c .before .before .before .before .before
 
 -- past the first test, ground 8 does not apply
-passed-8 : (c : tie.Else1) → otherTerms (termsIn (start c .args .s .terms)) (termsIn (start c .args .h .terms)) ≡ false
+passed-8 : (c : tie.Else1) → otherTerms (termsIn (start c .args .s .terms)) (headerIn (start c .args .h)) ≡ false
 passed-8 c = sym (c .before .other-terms .ensures) ∙ c .if1 .left
 
 -- past the second, ground 9 does not apply
@@ -69,7 +69,7 @@ returns c =
 header-outside-requires : tie.Need-header-outside-requires
 header-outside-requires c κs =
     let at = start c in
-    terms-inside (at .args .ledger .now) (at .args .file .now) (at .args .result .now)
+    days-inside (at .args .ledger .now) (at .args .file .now) (at .args .result .now)
     (at .pre .0) (at .pre .1) (passed-8 c)
 
 returns-2 : tie.Need-returns-2
