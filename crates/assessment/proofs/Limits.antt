@@ -1,10 +1,10 @@
 -- Limits and charges, each a product over a divisor: how they rise, what they are at most, and the cut of a charge.
 use Prim.Native.Nat.{ℕ, zero, suc, _+_, _-_, _*_, _/_, _≤_, _<_, max}
-use mathlib.Core.Path.{_≡_, refl}
+use mathlib.Core.Path.{_≡_, refl, ap, _∙_}
 use mathlib.Core.Bool.{Bool, true, false, cond}
 use lib.Dec.{eqb}
 use borrow.Author.Tests.{eq-eqb, ne-eqb}
-use native.Mathlib.Nat.{mul-le-mul-left, mul-le-mul, div-zero, div-eq-of-lt, div-mul-le-self, le-div-iff-mul-le}
+use native.Mathlib.Nat.{mul-assoc, mul-le-mul-left, mul-le-mul, div-zero, div-eq-of-lt, div-mul-le-self, le-div-iff-mul-le}
 use native.Mathlib.Omega.{arith}
 use Rattle.reading.specs.Block.{Terms, mostNetCone, leapYear, transitionYear}
 use Rattle.reading.specs.Interval.{mostKilowatts}
@@ -22,6 +22,7 @@ use Rattle.assessment.specs.Assessment.{
   raised,
 }
 use Rattle.assessment.specs.Values.{mostCharge}
+use Rattle.assessment.specs.Claims.{hundredths, WithinTariff, LimitOfTariff}
 
 -- a quotient rises with what is divided, and falls as the divisor grows
 quotient-le : {a b d e : ℕ} → 0 < d → d ≤ e → a ≤ b → a / e ≤ b / d
@@ -141,3 +142,31 @@ pub charge-le : (t : Terms) (kw : ℕ) (a : Account) (short : ℕ)
     → charge t (raised kw a) short ≤ limit t (max (a .largest) kw) - a .charged
 unfolding charge raised
 charge-le t kw a short = omega arith
+
+-- the limit is the most whole cents within the tariff's part
+pub limit-of-tariff : LimitOfTariff
+unfolding LimitOfTariff WithinTariff hundredths limit limitOver divisors
+limit-of-tariff t kw cents = by (eqb (t .year) transitionYear)
+  where
+    of : Bool → Divisors
+    of transition = cond transition (record { limit = 4000; charge = 720000 }) (record { limit = 2000; charge = 360000 })
+
+    product : ℕ
+    product = t .netCone * t .days * kw
+
+    grouped : limitFactor * t .netCone * t .days * kw ≡ limitFactor * product
+    grouped =
+        ap (λ x. x * kw) (mul-assoc limitFactor (t .netCone) (t .days)) ∙ mul-assoc limitFactor (t .netCone * t .days) kw
+
+    by : (transition : Bool)
+        → (cents ≤ limitFactor * t .netCone * t .days * kw / of transition .limit
+        → 100 * (1000 * cents) ≤ cond transition 75 150 * product)
+        × (100 * (1000 * cents) ≤ cond transition 75 150 * product
+        → cents ≤ limitFactor * t .netCone * t .days * kw / of transition .limit)
+    by true = (λ h. omega (arith, h, grouped), λ h. omega (arith, h, grouped))
+    by false = (λ h. omega (arith, h, grouped), λ h. omega (arith, h, grouped))
+
+-- so what a limit allows is within it
+pub within-tariff : (t : Terms) (kw cents : ℕ) → cents ≤ limit t kw → WithinTariff t kw cents
+unfolding LimitOfTariff
+within-tariff t kw cents = limit-of-tariff t kw cents .0

@@ -172,51 +172,51 @@ pub record Highest (r : Row) (on k most : ℕ) : Type 0 where
   pub rest : max most (highest on r (drop k (r .schedules))) ≡ economicScheduled r
   pub own : scheduled r ≤ most
 
--- a row of a file that has the schedule that it was dispatched on
-module _ {f : List ℕ} {w : RowWords} (among : w .dispatched < length (schedulesNamed f w)) where
-  -- its kind
-  abbrev kind : ℕ
-  kind = scheduleAt f w (w .dispatched) .kind
+-- a row of a file
+module _ (f : List ℕ) (w : RowWords) where
+  -- what schedule k counts is taken, if it is higher
+  pub highest-turn : {on k most more : ℕ} → Highest (rowOf f w) on k most → k < length (schedulesNamed f w)
+      → more ≡ countedFor on (rowOf f w) (scheduleOf f (scheduleAt f w k)) → Highest (rowOf f w) on (k + 1) (max most more)
+  unfolding highest
+  highest-turn {on} {k} h below is =
+      let next = ap (highest on (rowOf f w)) (next-schedule f w k below) in
+      record { rest = omega (arith, h .rest, next, is); own = omega (arith, h .own) }
 
-  -- it is that one
+  -- with no schedule left, the highest is what the economic rule takes
+  pub highest-end : {on k most : ℕ} → Highest (rowOf f w) on k most → length (schedulesNamed f w) ≤ k
+      → most ≡ economicScheduled (rowOf f w)
+  unfolding highest
+  highest-end {on} {k} h done =
+      let none = ap (highest on (rowOf f w)) (no-schedule f w k done) in omega (arith, h .rest, none)
+
+-- a row that was dispatched on one of its schedules
+module _ (f : List ℕ) (w : RowWords) (among : w .dispatched < length (schedulesNamed f w)) where
+  -- which that is
   on-read : dispatchedOn (rowOf f w) ≡ scheduleOf f (scheduleAt f w (w .dispatched)) ∷ []
   unfolding dispatchedOn rowOf rowWith
   on-read = ap (take 1) (next-schedule f w (w .dispatched) among)
 
-  -- and the points that are read of it are its curve
+  -- the points that are read of it are its curve
   pub read-curve : {v : ScheduleWords} → v ≡ scheduleAt f w (w .dispatched) → {c : List ℕ} → c ≡ curvePart f v
       → pointsIn (v .count) c ≡ dispatchedCurve (rowOf f w)
   unfolding dispatchedCurve firstCurve scheduleOf
   read-curve {v} e part = curve-is f v part ∙ ap (curveOf f) e ∙ sym (ap firstCurve on-read)
 
   -- before the first schedule, the row's own is the highest
-  pub highest-start : {own : ℕ} → own ≡ scheduled (rowOf f w) → Highest (rowOf f w) kind 0 own
+  pub highest-start : {on own : ℕ} → on ≡ scheduleAt f w (w .dispatched) .kind → own ≡ scheduled (rowOf f w)
+      → Highest (rowOf f w) on 0 own
   unfolding scheduleOf
-  highest-start is =
-      let s = scheduleOf f (scheduleAt f w (w .dispatched)) in
-      record { rest = omega (arith, is, economic-on (rowOf f w) s on-read); own = omega (arith, is) }
+  highest-start kind is =
+      let takes = economic-on (rowOf f w) (scheduleOf f (scheduleAt f w (w .dispatched))) on-read in
+      let all = ap (λ on. highest on (rowOf f w) (rowOf f w .schedules)) kind in
+      record { rest = omega (arith, is, takes, all); own = omega (arith, is) }
 
-  -- what schedule k counts is taken, if it is higher
-  pub highest-turn : {k most more : ℕ} → Highest (rowOf f w) kind k most → k < length (schedulesNamed f w)
-      → more ≡ countedFor kind (rowOf f w) (scheduleOf f (scheduleAt f w k)) → Highest (rowOf f w) kind (k + 1) (max most more)
+  -- it need not be taken once more
+  pub highest-skip : {on k most : ℕ} → Highest (rowOf f w) on k most → k ≡ w .dispatched → Highest (rowOf f w) on (k + 1) most
   unfolding highest
-  highest-turn {k} {most} {more} h below is =
-      let next = ap (highest kind (rowOf f w)) (next-schedule f w k below) in
-      record { rest = omega (arith, h .rest, next, is); own = omega (arith, h .own) }
-
-  -- the one dispatched on need not be
-  pub highest-skip : {k most : ℕ} → Highest (rowOf f w) kind k most → k ≡ w .dispatched → Highest (rowOf f w) kind (k + 1) most
-  unfolding highest scheduleOf
-  highest-skip {k} {most} h e =
+  highest-skip {on} {k} h e =
       let s = scheduleOf f (scheduleAt f w k) in
-      let next = ap (highest kind (rowOf f w)) (next-schedule f w k (omega (arith, e, among))) in
-      let on = ap (λ k. scheduleOf f (scheduleAt f w k) ∷ []) e in
-      let own = scheduled-on (rowOf f w) s (on-read ∙ sym on) in
-      record { rest = omega (arith, h .rest, h .own, next, own, counted-le kind (rowOf f w) s); own = h .own }
-
--- with no schedule left, it is what the economic rule takes
-pub highest-end : (f : List ℕ) (w : RowWords) {on k most : ℕ} → Highest (rowOf f w) on k most → length (schedulesNamed f w) ≤ k
-    → most ≡ economicScheduled (rowOf f w)
-unfolding highest
-highest-end f w {on} {k} {most} h done =
-    let none = ap (highest on (rowOf f w)) (no-schedule f w k done) in omega (arith, h .rest, none)
+      let next = ap (highest on (rowOf f w)) (next-schedule f w k (omega (arith, e, among))) in
+      let same = ap (λ k. scheduleOf f (scheduleAt f w k) ∷ []) e in
+      let own = scheduled-on (rowOf f w) s (on-read ∙ sym same) in
+      record { rest = omega (arith, h .rest, h .own, next, own, counted-le on (rowOf f w) s); own = h .own }

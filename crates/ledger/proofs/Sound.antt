@@ -2,7 +2,7 @@
 use Prim.Native.Nat.{ℕ, _+_, _*_, _≤_, _<_}
 use mathlib.Core.Path.{_≡_, refl, _∙_, sym, ap}
 use mathlib.Core.List.{List, List·Memᴰ}
-use mathlib.Core.Bool.{Bool, true, false, cond}
+use mathlib.Core.Bool.{Bool, true, false, cond, not, _&&_, and-false}
 use native.Mathlib.Omega.{arith}
 use lib.ListN.{length, drop}
 use lib.Seq.{drop-drop}
@@ -10,18 +10,26 @@ use lib.Dec.{eqb}
 use borrow.Author.Tests.{eqb-true}
 use Rattle.words.specs.Lists.{sum, any, rises}
 use Rattle.words.specs.Grounds.{answered, outside, liesFrom}
-use Rattle.words.proofs.Tests.{facts, not-outside}
+use Rattle.words.specs.Words.{word32}
+use Rattle.words.proofs.Tests.{facts, not-outside, not-second}
 use Rattle.words.proofs.Lists.{none-passes}
 use Rattle.words.proofs.Grounds.{none-applies}
 use Rattle.reading.specs.Block.{
+  yearlessFormat,
   blockHeaderBytes,
+  commonYear,
   mostIds,
   idBytes,
+  transitionYear,
+  firstYear,
+  lastYear,
   Terms,
+  yearNamed,
   blockWords,
   blockOf,
   notABlock,
   termsOutside,
+  yearOutside,
   yearUnknown,
   idsMisplaced,
   idsOutOfOrder,
@@ -62,11 +70,49 @@ ground-zero g ground taken refused same e = by (eqb g 0) refl e
     by true q z = eqb-true g 0 q
     by false q z = sym same ∙ z
 
+-- terms that a ledger may have are in range
+pub terms-of-ledger : (t : Terms) → ledgerTermsOutside t ≡ false → termsOutside t ≡ false
+unfolding ledgerTermsOutside
+terms-of-ledger t e = search facts
+
+-- and its year is at most the last
+pub year-of-ledger : (t : Terms) → ledgerTermsOutside t ≡ false → t .year ≤ lastYear
+unfolding ledgerTermsOutside yearOutside
+year-of-ledger t e =
+    by (eqb (t .year) 0) refl (eqb (t .year) transitionYear) refl
+    (not-second (termsOutside t) (not (eqb (t .year) 0) && yearOutside t) e)
+  where
+    tested : Bool → Bool
+    tested transition = cond transition (not (eqb (t .days) commonYear)) (outside firstYear lastYear (t .year))
+
+    by : (none : Bool) → eqb (t .year) 0 ≡ none → (transition : Bool) → eqb (t .year) transitionYear ≡ transition
+        → (not none && tested transition) ≡ false → t .year ≤ lastYear
+    by true p transition q out = omega (arith, eqb-true (t .year) 0 p)
+    by false p true q out = omega (arith, eqb-true (t .year) transitionYear q)
+    by false p false q out = not-outside firstYear lastYear (t .year) out .1
+
+-- terms that grounds 2 and 23 do not refuse are terms that a ledger may have
+terms-of-block : (b : List ℕ) → termsOutside (blockOf b .terms) ≡ false → yearUnknown (blockWords b) ≡ false
+    → ledgerTermsOutside (blockOf b .terms) ≡ false
+unfolding ledgerTermsOutside yearUnknown blockOf blockWords yearNamed
+terms-of-block b inside known = by (eqb (word32 b 0) yearlessFormat) refl known
+  where
+    named : Bool → ℕ
+    named yearless = cond yearless 0 (word32 b 5)
+
+    terms : Bool → Terms
+    terms yearless = record { netCone = word32 b 1; days = word32 b 2; year = named yearless }
+
+    by : (yearless : Bool) → eqb (word32 b 0) yearlessFormat ≡ yearless
+        → (not yearless && yearOutside (terms yearless)) ≡ false
+        → ledgerTermsOutside (blockOf b .terms) ≡ false
+    by true e out = rw (inside, e)
+    by false e out = rw (inside, e, out, and-false)
+
 -- a block and a ledger buffer that opening accepts
 pub record BlockAccepted (block ledger : List ℕ) : Type 0 where
   pub header : blockHeaderBytes (blockWords block .format) ≤ length block
-  pub terms : termsOutside (blockOf block .terms) ≡ false
-  pub year : yearUnknown (blockWords block) ≡ false
+  pub terms : ledgerTermsOutside (blockOf block .terms) ≡ false
   pub some : 1 ≤ blockWords block .idCount
   pub few : blockWords block .idCount ≤ mostIds
   pub placed : blockWords block .idsOffset + idBytes * blockWords block .idCount ≤ length block
@@ -86,11 +132,12 @@ unfolding openingGrounds any ledgerTooShort idsMisplaced liesFrom
 block-accepted block ledger e =
     let none = none-applies (openingGrounds block ledger) refl e in
     let g1 : notABlock block ≡ false = search facts depth 12 in
+    let g2 : termsOutside (blockOf block .terms) ≡ false = search facts depth 12 in
+    let g23 : yearUnknown (blockWords block) ≡ false = search facts depth 12 in
     let g3 : idsMisplaced block ≡ false = search facts depth 12 in
     record {
       header = block-has-header block g1;
-      terms = search facts depth 12;
-      year = search facts depth 12;
+      terms = terms-of-block block g2 g23;
       some = ids-few block g3 .0;
       few = ids-few block g3 .1;
       placed = search facts depth 12;
@@ -108,11 +155,6 @@ pub record AccountIn (t : Terms) (a : Account) : Type 0 where
 pub account-in : (t : Terms) (a : Account) → accountOutside t a ≡ false → AccountIn t a
 unfolding accountOutside
 account-in t a e = record { largest = search facts; charged = search facts; credited = search facts }
-
--- terms that a ledger may have are in range
-pub terms-of-ledger : (t : Terms) → ledgerTermsOutside t ≡ false → termsOutside t ≡ false
-unfolding ledgerTermsOutside
-terms-of-ledger t e = search facts
 
 -- a ledger that ground 6 does not refuse
 pub record LedgerIn (l : Ledger) : Type 0 where

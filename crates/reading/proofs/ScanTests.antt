@@ -46,13 +46,14 @@ use Rattle.reading.proofs.RowsLeft.{
 use Rattle.reading.proofs.Schedules.{next-named, none-left}
 use Rattle.reading.proofs.ScheduleTests.{curves-none}
 
--- in a format whose rows name schedules ground 18 looks at each row, in the other at none
-pub names-schedules : {format rows i : ℕ} → i < byFormat format 0 rows → (format ≡ curvesFormat → ⊥) × (i < rows)
-names-schedules {format} {rows} {i} = by (eqb format curvesFormat) refl
+-- ground 18 looks at a row only in a format whose rows name schedules
+pub names-schedules : (format rows : ℕ) {naming : ℕ} (i : ℕ) → naming ≡ byFormat format 0 rows → i < naming
+    → (format ≡ curvesFormat → ⊥) × (i < rows)
+names-schedules format rows {naming} i = by (eqb format curvesFormat) refl
   where
-    by : (t : Bool) → eqb format curvesFormat ≡ t → i < cond t 0 rows → (format ≡ curvesFormat → ⊥) × (i < rows)
-    by true e h = absurd (omega arith)
-    by false e h = (eqb-false format curvesFormat e, h)
+    by : (t : Bool) → eqb format curvesFormat ≡ t → naming ≡ cond t 0 rows → i < naming → (format ≡ curvesFormat → ⊥) × (i < rows)
+    by true e is h = absurd (omega arith)
+    by false e is h = (eqb-false format curvesFormat e, omega arith)
 
 -- the rows of a file f
 module _ (f : List ℕ) where
@@ -80,14 +81,15 @@ module _ (f : List ℕ) where
   row-fails e = rw e
 
   -- ground 18 has looked at each row that it applies to
-  pub schedules-pass : (i : ℕ) → someRow (schedulesOutside f) ≡ rowFrom (schedulesOutside f) i
-      → byFormat (headerOf f .format) 0 (headerOf f .rowCount) ≤ i → someRow (schedulesOutside f) ≡ false
-  schedules-pass i left = by (eqb (headerOf f .format) curvesFormat) refl
+  pub schedules-pass : {format rows naming : ℕ} (i : ℕ) → format ≡ headerOf f .format → rows ≡ headerOf f .rowCount
+      → naming ≡ byFormat format 0 rows → someRow (schedulesOutside f) ≡ rowFrom (schedulesOutside f) i → naming ≤ i
+      → someRow (schedulesOutside f) ≡ false
+  schedules-pass {format} {rows} {naming} i said count = by (eqb format curvesFormat) refl
     where
-      by : (t : Bool) → eqb (headerOf f .format) curvesFormat ≡ t → cond t 0 (headerOf f .rowCount) ≤ i
-          → someRow (schedulesOutside f) ≡ false
-      by true e h = curves-none f (eqb-true (headerOf f .format) curvesFormat e)
-      by false e h = rows-pass (schedulesOutside f) i left h
+      by : (t : Bool) → eqb format curvesFormat ≡ t → naming ≡ cond t 0 rows
+          → someRow (schedulesOutside f) ≡ rowFrom (schedulesOutside f) i → naming ≤ i → someRow (schedulesOutside f) ≡ false
+      by true e is left h = curves-none f (sym said ∙ eqb-true format curvesFormat e)
+      by false e is left h = rows-pass (schedulesOutside f) i left (omega arith)
 
   -- no row fails ground 13
   module _ (in-range : someRow rowOutside ≡ false) where
@@ -135,8 +137,8 @@ module _ (f : List ℕ) where
               ∙ ap (λ s. (curveOutside f s || later) || rest) (sym here)
               ∙ or-assoc (curveOutside f s) later rest
               ∙ ap (λ t. t || behind)
-                (or-assoc place (any pointOutside curve) (falls curve)
-                ∙ ap (λ t. place || t) (curve-start (s .count) (curvePart f s)))
+              (or-assoc place (any pointOutside curve) (falls curve)
+              ∙ ap (λ t. place || t) (curve-start (s .count) (curvePart f s)))
 
           -- the number or place of its points is refused, so the answer is 14
           pub curve-fails : curveMisplaced (headerOf f .pointCount) s ≡ true → answered (rowGrounds f) ≡ 14

@@ -80,7 +80,7 @@ module _ (f : List ℕ) (w : RowWords) where
       let table = length-entries scheduleBytes scheduleWords (w .count) (drop (headerOf f .schedulesOffset + scheduleBytes * w .first) f) in
       let own : 0 < length (asSchedule w) = rw (ne-eqb (w .count) 0 (λ e. omega arith)) (omega arith) in
       let listed : 0 < length (tableSchedules f (w .first) (w .count)) = omega (arith, table) in
-      in-either (λ l. 0 < length l) own listed (headerOf f .format)
+      in-either (λ (l : List ScheduleWords). 0 < length l) own listed (headerOf f .format)
 
   -- in format 2 schedule k stands in the table so many after the first
   pub at-table : (headerOf f .format ≡ curvesFormat → ⊥) → (k : ℕ) → k < length (schedulesNamed f w)

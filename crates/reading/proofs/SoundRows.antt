@@ -228,7 +228,7 @@ module _ (f : List ℕ) (w : RowWords) where
       ∙ drop-map (scheduleOf f) k (schedulesNamed f w)
       ∙ ap (map (scheduleOf f)) (next-named f w k below)
       ∙ ap (λ l. scheduleOf f (scheduleAt f w k) ∷ l)
-        (sym (drop-map (scheduleOf f) (k + 1) (schedulesNamed f w)) ∙ ap (drop (k + 1)) (sym schedules-of))
+      (sym (drop-map (scheduleOf f) (k + 1) (schedulesNamed f w)) ∙ ap (drop (k + 1)) (sym schedules-of))
 
   -- from their number on, none is left
   pub no-schedule : (k : ℕ) → length (schedulesNamed f w) ≤ k → drop k (rowOf f w .schedules) ≡ []

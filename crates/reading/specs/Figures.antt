@@ -157,9 +157,9 @@ pub record LayoutFigures : Type 0 where
         online = 21;
         lmp = negsuc 21;
         schedules =
-          record { kind = 1; curve = record { price = negsuc 9; kw = 94 } ∷ record { price = pos 95; kw = 96 } ∷ [] }
-          ∷ record { kind = 3; curve = record { price = pos 95; kw = 96 } ∷ [] }
-          ∷ [];
+            record { kind = 1; curve = record { price = negsuc 9; kw = 94 } ∷ record { price = pos 95; kw = 96 } ∷ [] }
+            ∷ record { kind = 3; curve = record { price = pos 95; kw = 96 } ∷ [] }
+            ∷ [];
         dispatched = 1;
       }
       ∷ []

@@ -1,7 +1,7 @@
 -- What a list of grounds says of its answer.
 use Prim.Native.Nat.{ℕ, _<_, _≤_}
 use mathlib.Core.Path.{_≡_, refl}
-use mathlib.Core.Logic.{_⊎_, inl, inr}
+use mathlib.Core.Logic.{_⊎_, inl, inr, ⊎-elim}
 use mathlib.Core.List.{List, [], _∷_}
 use mathlib.Core.Bool.{Bool, true, false, cond, _||_}
 use lib.Dec.{eqb}
@@ -25,14 +25,21 @@ none-applies (g ∷ gs) n e = by (g .0) e (none-applies gs (not-second (eqb (g .
     by true q later = absurd (omega (arith, numbered))
     by false q later = later q
 
--- what is answered is 0, or a number of the list
+-- what is answered is 0, or a number that a test passes over, where it does so for the number of each ground
+pub answered-passed : (test : ℕ → Bool) (gs : List (Bool × ℕ)) → any (λ g. test (g .1)) gs ≡ false
+    → (answered gs ≡ 0) ⊎ (test (answered gs) ≡ false)
+unfolding any answered
+answered-passed test [] n = inl refl
+answered-passed test (g ∷ gs) n =
+    by (g .0) (answered-passed test gs (not-second (test (g .1)) (any (λ g. test (g .1)) gs) n))
+  where
+    by : (t : Bool) → (answered gs ≡ 0) ⊎ (test (answered gs) ≡ false)
+        → (cond t (g .1) (answered gs) ≡ 0) ⊎ (test (cond t (g .1) (answered gs)) ≡ false)
+    by true later = inr (not-first (test (g .1)) (any (λ g. test (g .1)) gs) n)
+    by false later = later
+
+-- so it is 0, or lies in the range that each ground's number does
 pub answered-in : (low high : ℕ) (gs : List (Bool × ℕ)) → any (λ g. outside low high (g .1)) gs ≡ false
     → (answered gs ≡ 0) ⊎ ((low ≤ answered gs) × (answered gs ≤ high))
-unfolding any answered
-answered-in low high [] n = inl refl
-answered-in low high (g ∷ gs) n = by (g .0) (answered-in low high gs (not-second (outside low high (g .1)) (any (λ g. outside low high (g .1)) gs) n))
-  where
-    by : (t : Bool) → (answered gs ≡ 0) ⊎ ((low ≤ answered gs) × (answered gs ≤ high))
-        → (cond t (g .1) (answered gs) ≡ 0) ⊎ ((low ≤ cond t (g .1) (answered gs)) × (cond t (g .1) (answered gs) ≤ high))
-    by true later = inr (not-outside low high (g .1) (not-first (outside low high (g .1)) (any (λ g. outside low high (g .1)) gs) n))
-    by false later = later
+answered-in low high gs n =
+    ⊎-elim inl (λ e. inr (not-outside low high (answered gs) e)) (answered-passed (outside low high) gs n)

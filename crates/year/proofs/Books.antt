@@ -24,15 +24,15 @@ use Rattle.words.specs.Lists.{sum, risesAbove}
 use Rattle.words.specs.Words.{Bytes, word32}
 use Rattle.words.proofs.Lists.{sum-map, sum-most}
 use Rattle.words.proofs.Words.{numberAt-lt, drop-bytes, entries-all}
-use Rattle.reading.specs.Block.{idBytes, mostIds, blockWords, blockOf, termsOutside, idsOutOfOrder}
+use Rattle.reading.specs.Block.{idBytes, mostIds, blockWords, blockOf, idsOutOfOrder}
 use Rattle.reading.specs.Interval.{intervalsPerDay, mostKilowatts}
 use Rattle.reading.proofs.Bounds.{terms-in, ids-rise}
 use Rattle.assessment.specs.Assessment.{mostCents, limit, Account, accountOf, ChargedRow, Assessed}
 use Rattle.assessment.proofs.Limits.{mostLimit, limit-le}
-use Rattle.ledger.specs.Ledger.{mostCredited, Ledger, idsIn}
+use Rattle.ledger.specs.Ledger.{mostCredited, Ledger, idsIn, ledgerTermsOutside}
 use Rattle.settling.specs.Settling.{postedAll}
 use Rattle.year.specs.Year.{GivenRow, sumOfPlant, largestOfPlant, accountByRows}
-use Rattle.ledger.proofs.Sound.{AccountIn, LedgerIn}
+use Rattle.ledger.proofs.Sound.{terms-of-ledger, AccountIn, LedgerIn}
 use Rattle.year.proofs.Given.{givenOf}
 use Rattle.year.proofs.PostedSums.{posted-all}
 use Rattle.year.proofs.Fits.{largest-le, part-le}
@@ -96,7 +96,7 @@ pub record Books (block : List ℕ) (l : Ledger) (gs : List GivenRow) : Type 0 w
 
 -- a block whose terms and ids no ground refuses
 pub record GoodBlock (block : List ℕ) : Type 0 where
-  pub terms : termsOutside (blockOf block .terms) ≡ false
+  pub terms : ledgerTermsOutside (blockOf block .terms) ≡ false
   pub ids : idsOutOfOrder (blockOf block .ids) ≡ false
   pub some : 1 ≤ length (blockOf block .ids)
   pub few : length (blockOf block .ids) ≤ mostIds
@@ -139,7 +139,7 @@ module _ (block : List ℕ) (good : GoodBlock block) (l : Ledger) (gs : List Giv
   -- all charges are at most the limits of all plants, and all credits at most all charges
   charges-in : sum (λ g. g .charge) gs ≤ mostCredited
   charges-in =
-      let t = terms-in (blockOf block .terms) (good .terms) in
+      let t = terms-in (blockOf block .terms) (terms-of-ledger (blockOf block .terms) (good .terms)) in
       let all = sum-most (λ i. sumOfPlant i (λ g. g .charge) gs) mostLimit mostIds is (good .few)
       (λ i m. omega (arith, k .limited i m, limit-le (blockOf block .terms) (largestOfPlant i gs) t (largest-in i))) in
       omega (arith, parts-make-whole (λ g. g .charge) is rise gs (k .known), all)

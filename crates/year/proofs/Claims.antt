@@ -1,18 +1,19 @@
 -- The proofs of the claims of specs/Claims.antt.
 use Prim.Native.Nat.{ℕ, _*_, _^_, _<_, _≤_}
 use mathlib.Core.Path.{_≡_, refl, sym, ap, subst}
-use mathlib.Core.Logic.{_⊎_, inl, ⊎-elim}
+use mathlib.Core.Logic.{_⊎_, inl, inr, ⊎-elim}
 use mathlib.Core.List.{List, [], List·Memᴰ}
-use mathlib.Core.Bool.{Bool, true, false}
+use mathlib.Core.Bool.{Bool, true, false, not, _||_}
 use native.Mathlib.Omega.{arith}
 use lib.ListN.{length, length-map, drop}
-use lib.Dec.{eqb}
-use borrow.Author.Tests.{eqb-true}
+use lib.Dec.{eqb, leb}
+use borrow.Author.Tests.{eqb-true, leb-true, not-false}
 use Rattle.words.specs.Lists.{any}
 use Rattle.words.specs.Words.{Bytes, numberAt, word64, written, wordsIn}
 use Rattle.words.specs.Grounds.{answered, outside}
 use Rattle.words.proofs.Words.{numberAt-lt, drop-bytes, entries-all, words-back, length-written, beyond-written}
-use Rattle.words.proofs.Grounds.{answered-in}
+use Rattle.words.proofs.Tests.{either}
+use Rattle.words.proofs.Grounds.{answered-passed, answered-in}
 use Rattle.reading.specs.Interval.{rowGrounds}
 use Rattle.assessment.specs.Assessment.{Account, Assessed, credit}
 use Rattle.ledger.specs.Ledger.{ledgerHeaderBytes, accountBytes, accountAt, accountCount, ledgerOf, ledgerWords}
@@ -127,13 +128,18 @@ settling-reads-back ledger file result bytes e =
     subst (ReadsBack ledger file result) (sym (settling-accepts ledger file result none))
     (settled-back ledger file result bytes (accepted ledger file result e))
 
--- no ground that opening answers is above 5
-opening-ground : (block ledger : List ℕ) → answered (openingGrounds block ledger) ≤ 5
-unfolding openingGrounds any outside
+-- no ground that opening answers is above 5, but for 23
+opening-ground : (block ledger : List ℕ)
+    → let g = answered (openingGrounds block ledger) in (g ≤ 5) ⊎ (g ≡ 23)
+unfolding openingGrounds any
 opening-ground block ledger =
-    ⊎-elim (λ e. omega (arith, e)) (λ h. h .1) (answered-in 1 5 (openingGrounds block ledger) refl)
+    let g = answered (openingGrounds block ledger) in
+    let other : ℕ → Bool = λ n. not (leb n 5 || eqb n 23) in
+    ⊎-elim (λ e. inl (omega (arith, e)))
+    (λ e. ⊎-elim (λ t. inl (leb-true g 5 t)) (λ t. inr (eqb-true g 23 t)) (either (leb g 5) (eqb g 23) (not-false _ e)))
+    (answered-passed other (openingGrounds block ledger) refl)
 
--- opening answers at most 5, a refusal changes no byte of the ledger, and its length stays
+-- opening answers at most 5, or 23, a refusal changes no byte of the ledger, and its length stays
 pub opening-refusals : OpeningRefusals
 unfolding OpeningRefusals
 opening-refusals block ledger = by (eqb g 0) refl
@@ -146,7 +152,7 @@ opening-refusals block ledger = by (eqb g 0) refl
         let a = opening-accepts block ledger (eqb-true g 0 e) in
         let s = block-accepted block ledger (eqb-true g 0 e) in
         subst (OpeningAnswers ledger) (sym a)
-        (record { ground = omega arith; refused = λ h. absurd (omega arith); length-kept = length-ledger (openedLedger block) ledger (opened-room block ledger s) })
+        (record { ground = inl (omega arith); refused = λ h. absurd (omega arith); length-kept = length-ledger (openedLedger block) ledger (opened-room block ledger s) })
     by false e =
         subst (OpeningAnswers ledger) (sym (opening-refuses block ledger e))
         (record { ground = opening-ground block ledger; refused = λ h. refl; length-kept = refl })

@@ -33,6 +33,7 @@ use Rattle.assessment.proofs.Promises.{FiguresIn, figures-in, printed-le, numer
 use Rattle.assessment.proofs.Limits.{limit-le}
 use Rattle.assessment.proofs.Shares.{credits-le}
 use Rattle.ledger.specs.Ledger.{ledgerOf}
+use Rattle.ledger.proofs.Sound.{terms-of-ledger, year-of-ledger}
 use Rattle.settling.specs.Settling.{summaryWords, resultWords, assessedFile, postedAll, settledLedger}
 use Rattle.settling.proofs.Accepted.{Accepted}
 use Rattle.settling.proofs.SettledLaws.{chargedOf, rows-are, rows-count, bonus-fits}
@@ -157,7 +158,7 @@ module _ (ledger file : List ℕ) where
         let p = posted-all v (v .rows) a in
         let now = s .ledger-is .accounts a m in
         let t = ledgerOf ledger .terms in
-        let most = limit-le t (a .largest) (terms-in t (s .ledger-is .terms)) (now .largest) in
+        let most = limit-le t (a .largest) (terms-in t (terms-of-ledger t (s .ledger-is .terms))) (now .largest) in
         record {
           id = omega (arith, p .id, id-fits);
           largest = omega (arith, p .largest, now .largest, largest-le (a .id) mostKilowatts new new-committed);
@@ -171,10 +172,11 @@ module _ (ledger file : List ℕ) where
     unfolding settledLedger carriedOn
     ledger-fits ids-fit =
         let l = ledgerOf ledger in
-        let t = terms-in (l .terms) (s .ledger-is .terms) in
+        let t = terms-in (l .terms) (terms-of-ledger (l .terms) (s .ledger-is .terms)) in
         record {
           netCone = omega (arith, t .netCone);
           days = omega (arith, t .days);
+          year = omega (arith, year-of-ledger (l .terms) (s .ledger-is .terms));
           earliest = omega (arith, s .header .interval, s .days, t .days);
           carried = omega (arith, s .pool);
           count = omega (arith, length-map (l .accounts) (postedAll v (v .rows)), s .ledger-is .few);

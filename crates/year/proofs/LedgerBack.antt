@@ -49,6 +49,7 @@ pub record AccountFits (a : Account) : Type 0 where
 pub record LedgerFits (l : Ledger) : Type 0 where
   pub netCone : l .terms .netCone < 2 ^ 64
   pub days : l .terms .days < 2 ^ 64
+  pub year : l .terms .year < 2 ^ 64
   pub earliest : l .earliest < 2 ^ 64
   pub carried : l .carried < 2 ^ 64
   pub count : length (l .accounts) < 2 ^ 64
@@ -70,7 +71,7 @@ pub ledger-words-fit : (l : Ledger) → LedgerFits l → Fits (ledgerWords l)
 unfolding ledgerWords standingWords
 ledger-words-fit l f =
     let later = below-cons 8 _ (omega arith)
-    (below-cons 0 _ (omega arith) (account-words-fit (l .accounts) (f .accounts))) in
+    (below-cons _ _ (f .year) (account-words-fit (l .accounts) (f .accounts))) in
     below-cons 1 _ (omega arith)
     (below-cons _ _ (f .netCone)
     (below-cons _ _ (f .days)
@@ -110,15 +111,16 @@ ledger-back l b f =
     let rest = drop (8 * length (ledgerWords l)) b in
     let n = length (l .accounts) in
     let t = l .terms in
-    let counted : number 8 (bytesOfWords 8 (n ∷ 8 ∷ 0 ∷ ws) ++ rest) ≡ n = first-word 8 n (8 ∷ 0 ∷ ws) rest
+    let counted : number 8 (bytesOfWords 8 (n ∷ 8 ∷ t .year ∷ ws) ++ rest) ≡ n = first-word 8 n (8 ∷ t .year ∷ ws) rest
     (f .count) in
     λ i. record {
       terms = record {
-        netCone = first-word 8 (t .netCone) (t .days ∷ l .earliest ∷ l .carried ∷ n ∷ 8 ∷ 0 ∷ ws) rest (f .netCone) i;
-        days = first-word 8 (t .days) (l .earliest ∷ l .carried ∷ n ∷ 8 ∷ 0 ∷ ws) rest (f .days) i;
+        netCone = first-word 8 (t .netCone) (t .days ∷ l .earliest ∷ l .carried ∷ n ∷ 8 ∷ t .year ∷ ws) rest (f .netCone) i;
+        days = first-word 8 (t .days) (l .earliest ∷ l .carried ∷ n ∷ 8 ∷ t .year ∷ ws) rest (f .days) i;
+        year = first-word 8 (t .year) ws rest (f .year) i;
       };
-      earliest = first-word 8 (l .earliest) (l .carried ∷ n ∷ 8 ∷ 0 ∷ ws) rest (f .earliest) i;
-      carried = first-word 8 (l .carried) (n ∷ 8 ∷ 0 ∷ ws) rest (f .carried) i;
+      earliest = first-word 8 (l .earliest) (l .carried ∷ n ∷ 8 ∷ t .year ∷ ws) rest (f .earliest) i;
+      carried = first-word 8 (l .carried) (n ∷ 8 ∷ t .year ∷ ws) rest (f .carried) i;
       accounts = (ap (λ k. entries accountBytes accountAt k (bytesOfWords 8 ws ++ rest)) counted ∙ accounts-back rest (l .accounts) (f .accounts)) i;
     }
 
@@ -139,7 +141,6 @@ record Laid (l : Ledger) (b : List ℕ) : Type 0 where
   pub format : word64 b 0 ≡ 1
   pub count : accountCount b ≡ length (l .accounts)
   pub offset : word64 b 6 ≡ 8
-  pub last : word64 b 7 ≡ 0
 
 -- a written ledger has those words, where its number of accounts fits 64 bits
 laid : (l : Ledger) (b : List ℕ) → length (l .accounts) < 2 ^ 64 → Laid l (written (ledgerWords l) b)
@@ -150,10 +151,9 @@ laid l b h =
     let n = length (l .accounts) in
     let t = l .terms in
     record {
-      format = first-word 8 1 (t .netCone ∷ t .days ∷ l .earliest ∷ l .carried ∷ n ∷ 8 ∷ 0 ∷ ws) rest (omega arith);
-      count = first-word 8 n (8 ∷ 0 ∷ ws) rest h;
-      offset = first-word 8 8 (0 ∷ ws) rest (omega arith);
-      last = first-word 8 0 ws rest (omega arith);
+      format = first-word 8 1 (t .netCone ∷ t .days ∷ l .earliest ∷ l .carried ∷ n ∷ 8 ∷ t .year ∷ ws) rest (omega arith);
+      count = first-word 8 n (8 ∷ t .year ∷ ws) rest h;
+      offset = first-word 8 8 (t .year ∷ ws) rest (omega arith);
     }
 
 -- an account within its bounds passes ground 6's test of an account
@@ -163,11 +163,11 @@ account-good t a s =
     rw (le-ltb mostKilowatts (a .largest) (s .largest), le-ltb (limit t (a .largest)) (a .charged) (s .charged))
     (le-ltb mostCredited (a .credited) (s .credited))
 
--- a buffer whose words 0, 6 and 7 are as laid out passes the test of the layout
+-- a buffer whose words 0 and 6 are as laid out passes the test of the layout
 laid-out : (l : Ledger) (b : List ℕ) → Laid l b → notLaidOut b ≡ false
 unfolding notLaidOut
 laid-out l b p =
-    rw (eq-eqb (word64 b 0) 1 (p .format), eq-eqb (word64 b 6) 8 (p .offset), eq-eqb (word64 b 7) 0 (p .last))
+    rw (eq-eqb (word64 b 0) 1 (p .format), eq-eqb (word64 b 6) 8 (p .offset))
 
 -- a ledger in order passes the test that its sums close
 closing : (l : Ledger) → LedgerIn l → doesNotClose l ≡ false

@@ -53,7 +53,7 @@ use Rattle.year.specs.Year.{
   rowsWithBonus,
 }
 use Rattle.year.specs.Claims.{SummedOverRows, SumsHold}
-use Rattle.ledger.proofs.Sound.{BlockAccepted, ledger-room}
+use Rattle.ledger.proofs.Sound.{terms-of-ledger, year-of-ledger, BlockAccepted, ledger-room}
 use Rattle.settling.proofs.Accepted.{Accepted, accepted}
 use Rattle.settling.proofs.SettledLaws.{chargedOf}
 use Rattle.year.proofs.LedgerBack.{AccountFits, LedgerFits, ledger-back, written-holds}
@@ -72,6 +72,7 @@ use Rattle.year.proofs.Fits.{
   interval-made,
 }
 use Rattle.year.proofs.Totals.{largest-append, plant-append}
+use Rattle.assessment.proofs.Limits.{within-tariff}
 use Rattle.year.proofs.Limits.{within-limit}
 use Rattle.settling.proofs.SettlingAnswers.{settledAnswer}
 use Rattle.ledger.proofs.OpeningAnswers.{openedAnswer}
@@ -240,6 +241,7 @@ module _ (block : List ℕ) (bytes : Bytes block) (good : GoodBlock block) (y : 
           rest = λ p. rw carried (new-rest p);
           exclusive = λ g m. ⊎-elim (k .sums .exclusive g) (new-exclusive g) (List·Memᴰ·append-cases (y .given) m);
           limited = new-limited;
+          tariff = λ i m. within-tariff (blockOf block .terms) _ _ (new-limited i m);
           accounts = books .accounts;
           known = books .known;
         };
@@ -279,10 +281,11 @@ module _ (block ledger : List ℕ) (s : BlockAccepted block ledger) where
   pub opened-fits : Bytes block → LedgerFits opened
   unfolding openedLedger emptyAccount
   opened-fits bytes =
-      let t = terms-in (blockOf block .terms) (s .terms) in
+      let t = terms-in (blockOf block .terms) (terms-of-ledger (blockOf block .terms) (s .terms)) in
       record {
         netCone = omega (arith, t .netCone);
         days = omega (arith, t .days);
+        year = omega (arith, year-of-ledger (blockOf block .terms) (s .terms));
         earliest = omega arith;
         carried = omega arith;
         count = omega (arith, opened-length, s .few);
@@ -309,6 +312,7 @@ module _ (block ledger : List ℕ) (s : BlockAccepted block ledger) where
           rest = λ p. omega arith;
           exclusive = λ g m. absurd (List·Memᴰ·not-nil m);
           limited = books .limited;
+          tariff = λ i m. within-tariff (blockOf block .terms) _ _ (books .limited i m);
           accounts = books .accounts;
           known = books .known;
         };

@@ -9,6 +9,7 @@ use Rattle.words.specs.Lists.{sum}
 use Rattle.words.specs.Words.{Bytes, word64, wordsIn, written}
 use Rattle.reading.specs.Block.{blockOf}
 use Rattle.assessment.specs.Assessment.{limit}
+use Rattle.assessment.specs.Claims.{WithinTariff}
 use Rattle.ledger.specs.Ledger.{ledgerOf, ledgerWords, notALedger}
 use Rattle.ledger.specs.Opening.{openedLedger, OpeningAnswer, opening}
 use Rattle.settling.specs.Settling.{resultWords, assessedFile, settledLedger, SettlingAnswer, settling}
@@ -58,6 +59,9 @@ pub record SumsHold (block : List ℕ) (y : Year) : Type 0 where
   -- no plant's charges exceed the limit of its largest commitment so far
   pub limited : (i : ℕ) → Member i (blockOf block .ids)
       → sumOfPlant i (λ g. g .charge) (y .given) ≤ limit (blockOf block .terms) (largestOfPlant i (y .given))
+  -- which is 0.75 times Net CONE times days times MW in 2016, and 1.5 times in other years
+  pub tariff : (i : ℕ) → Member i (blockOf block .ids)
+      → WithinTariff (blockOf block .terms) (largestOfPlant i (y .given)) (sumOfPlant i (λ g. g .charge) (y .given))
   -- the accounts are those of the block in its order, each with its largest commitment and the sums of its own charges
   -- and credits
   pub accounts : ledgerOf (y .ledger) .accounts ≡ map (accountByRows (y .given)) (blockOf block .ids)
@@ -112,9 +116,9 @@ unfoldable pub SettlingReadsBack : Type 0
 SettlingReadsBack =
     (ledger file result : List ℕ) → Bytes ledger → settling ledger file result .ground ≡ 0 → ReadsBack ledger file result (settling ledger file result)
 
--- what holds of every answer of opening: 0 or 1 to 5, a refusal changes no byte, the length never changes
+-- what holds of every answer of opening: 0, 1 to 5 or 23, a refusal changes no byte, the length never changes
 pub record OpeningAnswers (ledger : List ℕ) (a : OpeningAnswer) : Type 0 where
-  pub ground : a .ground ≤ 5
+  pub ground : (a .ground ≤ 5) ⊎ (a .ground ≡ 23)
   pub refused : 0 < a .ground → a .ledger ≡ ledger
   pub length-kept : length (a .ledger) ≡ length ledger
 

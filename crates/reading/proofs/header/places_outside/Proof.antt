@@ -49,9 +49,9 @@ Placed = lts.Else3 (leaves-reads.Asked, leaves-reads.Learnt, overlaps-reads.Aske
 -- each ends within 64 bits
 ends : (c : Placed)
     → (let a = c .before .before .before .before .before .before .args in
-      (a .rows .at + a .rows .bytes < 2 ^ 64)
-      × (a .points .at + a .points .bytes < 2 ^ 64)
-      × (a .schedules .at + a .schedules .bytes < 2 ^ 64))
+    (a .rows .at + a .rows .bytes < 2 ^ 64)
+    × (a .points .at + a .points .bytes < 2 ^ 64)
+    × (a .schedules .at + a .schedules .bytes < 2 ^ 64))
 ends c =
     let e2 = c .before .before in
     let e1 = e2 .before .before in

@@ -1,50 +1,78 @@
+-- `reading::header::tables_misplaced` meets its contract. Each test of a number is one of the ground, and so is that of the places.
+use Prim.Native.Nat.{_*_, _≤_}
+use mathlib.Core.Path.{sym, ap, _∙_}
+use mathlib.Core.Bool.{Bool}
+use native.Mathlib.Nat.{mul-le-mul}
+use native.Mathlib.Omega.{arith}
 use borrow.Author.Needs.{needs}
+use lib.ListN.{length}
+use Rattle.reading.specs.Interval.{Layout, pointBytes, scheduleBytes, placesOutside}
+use Rattle.reading.specs.Values.{tableIn, layoutIn, headerIn}
+use Rattle.reading.proofs.Layouts.{row-most}
+use Rattle.reading.proofs.HeaderTests.{rows-none, rows-many, points-many, schedules-many, places-left}
 use Rattle.reading.proofs.header.tables_misplaced.Statement.{statement}
 use Rattle.reading.proofs.header.tables_misplaced.Tie as tie
-use Rattle.reading.proofs.header.tables_misplaced.Reads as reads
-use Rattle.reading.proofs.header.tables_misplaced.Lts as lts
-use Rattle.reading.proofs.header.layout_of.Reads as layout-of-reads
-use Rattle.reading.proofs.header.places_outside.Reads as places-outside-reads
 
--- src/header.rt:203:9
 returns : tie.Need-returns
-returns c = ?
+unfolding headerIn
+returns c =
+    let s = c .before .before .before in
+    sym (rows-none _ (headerIn (s .args .h)) (s .pre .says) (omega arith))
 
--- src/header.rt:206:9
 returns-2 : tie.Need-returns-2
-returns-2 c = ?
+unfolding headerIn
+returns-2 c =
+    let s = c .before .before .before .before .before in
+    sym (rows-many _ (headerIn (s .args .h)) (s .pre .says) (omega arith))
 
--- src/header.rt:209:9
 returns-3 : tie.Need-returns-3
-returns-3 c = ?
+unfolding headerIn
+returns-3 c =
+    let s = c .before .before .before .before .before .before .before in
+    sym (points-many _ (headerIn (s .args .h)) (s .pre .says) (omega arith))
 
--- src/header.rt:212:9
 returns-4 : tie.Need-returns-4
-returns-4 c = ?
+unfolding headerIn
+returns-4 c =
+    let s = c .before .before .before .before .before .before .before .before .before in
+    sym (schedules-many _ (headerIn (s .args .h)) (s .pre .says) (omega arith))
 
--- src/header.rt:214:9
 layout-of-requires : tie.Need-layout-of-requires
 layout-of-requires c κs = search needs
 
--- src/header.rt:217:16
 mul-places-outside : tie.Need-mul-places-outside
-mul-places-outside c = ?
+unfolding layoutIn
+mul-places-outside c =
+    let l = c .before .before in
+    let s = l .before .before .before .before .before .before .before .before .before .before in
+    let size = ap (λ l. l .rowBytes) (l .layout-of .ensures) in
+    let most : l .layout-of .result .«row_bytes» ≤ 60 = omega (arith, size, row-most (s .args .h .format)) in
+    let rows : s .args .h .rows ≤ 512 = omega arith in
+    omega (arith, mul-le-mul most rows)
 
--- src/header.rt:221:16
 mul-places-outside-2 : tie.Need-mul-places-outside-2
 mul-places-outside-2 c = search needs
 
--- src/header.rt:225:16
 mul-places-outside-3 : tie.Need-mul-places-outside-3
 mul-places-outside-3 c = search needs
 
--- src/header.rt:227:5
 places-outside-requires : tie.Need-places-outside-requires
 places-outside-requires c κs = search needs
 
--- src/header.rt:198:1
 returns-5 : tie.Need-returns-5
-returns-5 c = ?
+unfolding layoutIn tableIn headerIn
+returns-5 c =
+    let l = c .before .before .before .before .before in
+    let s = l .before .before .before .before .before .before .before .before .before .before in
+    let f = s .args .file .now in
+    let h = s .args .h in
+    let places : Layout → Bool = λ l. placesOutside (l .headerBytes) (length f)
+    (record { at = h .«rows_at»; bytes = l .rowBytes * h .rows })
+    (record { at = h .«points_at»; bytes = pointBytes * h .points })
+    (record { at = h .«schedules_at»; bytes = scheduleBytes * h .schedules }) in
+    c .places-outside .ensures
+    ∙ ap places (l .layout-of .ensures)
+    ∙ sym (places-left f (headerIn h) (s .pre .says) (omega arith) (omega arith) (omega arith) (omega arith))
 
 pub tables-misplaced-spec : {M : Type 1} → statement M
 tables-misplaced-spec =

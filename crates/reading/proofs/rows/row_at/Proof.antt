@@ -28,8 +28,8 @@ bytes c = ap (λ l. l .rowBytes) (c .layout-of .ensures)
 -- and lies within the file
 lies : (c : Laid)
     → (let s = c .before .before in
-      let size = c .layout-of .result .«row_bytes» in
-      s .args .h .«rows_at» + size * s .args .i + size ≤ length (s .args .file .now))
+    let size = c .layout-of .result .«row_bytes» in
+    s .args .h .«rows_at» + size * s .args .i + size ≤ length (s .args .file .now))
 lies c = let s = c .before .before in row-lies (s .pre .0) (c .layout-of .result .«row_bytes») (bytes c) (s .args .i) (s .pre .1)
 
 layout-of-requires : tie.Need-layout-of-requires
