@@ -31,8 +31,11 @@ use Rattle.reading.proofs.SoundRows.{
   schedules-of,
   next-schedule,
   no-schedule,
+  dispatched-some,
   dispatched-none,
   curve-is,
+  length-curve,
+  count-some,
 }
 use Rattle.assessment.specs.Assessment.{
   scheduledBy,
@@ -111,6 +114,7 @@ module _ (r : Row) where
       -- dispatched on none
       on-none : dispatchedOn r ≡ [] → economicScheduled r ≡ scheduled r
       on-none none = sym (economic-none none) ∙ sym (scheduled-none none)
+
       -- dispatched on the one, or beyond it
       placed : (s : Schedule) (d : ℕ) → r .schedules ≡ s ∷ [] → r .dispatched ≡ d → economicScheduled r ≡ scheduled r
       placed s zero e d =
@@ -118,6 +122,7 @@ module _ (r : Row) where
           let all : highest (s .kind) r (r .schedules) ≡ max (countedFor (s .kind) r s) 0 = ap (highest (s .kind) r) e in
           omega (arith, economic-on s on, scheduled-on s on, all, counted-le (s .kind) r s)
       placed s (suc n) e d = on-none (ap₂ (λ d ss. take 1 (drop d ss)) d e ∙ ap (take 1) (drop-nil n))
+
       by : (ss : List Schedule) → r .schedules ≡ ss → length ss ≤ 1 → economicScheduled r ≡ scheduled r
       by [] e few = on-none (ap (λ ss. take 1 (drop (r .dispatched) ss)) e ∙ ap (take 1) (drop-nil (r .dispatched)))
       by (s ∷ []) e few = placed s (r .dispatched) e refl
@@ -166,6 +171,17 @@ module _ {f : List ℕ} {w : RowWords} (s : Sound f w) where
       let empty = schedules-of f w ∙ ap (map (scheduleOf f)) (dispatched-none s (ap (λ v. v .count) (sym e) ∙ none)) in
       ap (λ ss. take 1 (drop d ss)) empty ∙ ap (take 1) (drop-nil d)
 
+  -- where it has points, it is among the row's schedules
+  pub on-something : {v : ScheduleWords} → v ≡ scheduleAt f w (w .dispatched) → (v .count ≡ 0 → ⊥)
+      → w .dispatched < length (schedulesNamed f w)
+  on-something {v} e some =
+      let same = ap (λ v. v .count) e in
+      dispatched-some s (subst (λ n. 0 < n) same (above (v .count) some))
+    where
+      above : (n : ℕ) → (n ≡ 0 → ⊥) → 0 < n
+      above zero some = absurd (some refl)
+      above (suc n) some = omega arith
+
 -- before schedule k of a row dispatched on one of a kind: the highest so far, with what those left count, is what the economic rule takes,
 -- and it is no less than the row's own
 pub record Highest (r : Row) (on k most : ℕ) : Type 0 where
@@ -196,11 +212,21 @@ module _ (f : List ℕ) (w : RowWords) (among : w .dispatched < length (schedule
   unfolding dispatchedOn rowOf rowWith
   on-read = ap (take 1) (next-schedule f w (w .dispatched) among)
 
-  -- the points that are read of it are its curve
+  -- its curve
+  curve-read : dispatchedCurve (rowOf f w) ≡ curveOf f (scheduleAt f w (w .dispatched))
+  unfolding dispatchedCurve firstCurve scheduleOf
+  curve-read = ap firstCurve on-read
+
+  -- the points that are read of it are that curve
   pub read-curve : {v : ScheduleWords} → v ≡ scheduleAt f w (w .dispatched) → {c : List ℕ} → c ≡ curvePart f v
       → pointsIn (v .count) c ≡ dispatchedCurve (rowOf f w)
-  unfolding dispatchedCurve firstCurve scheduleOf
-  read-curve {v} e part = curve-is f v part ∙ ap (curveOf f) e ∙ sym (ap firstCurve on-read)
+  read-curve {v} e part = curve-is f v part ∙ ap (curveOf f) e ∙ sym curve-read
+
+  -- a sound row has some
+  pub curve-some : Sound f w → 0 < length (dispatchedCurve (rowOf f w))
+  curve-some s =
+      let v = scheduleAt f w (w .dispatched) in
+      omega (arith, ap length curve-read, length-curve f v, count-some (schedule-sound s (w .dispatched) among))
 
   -- before the first schedule, the row's own is the highest
   pub highest-start : {on own : ℕ} → on ≡ scheduleAt f w (w .dispatched) .kind → own ≡ scheduled (rowOf f w)
