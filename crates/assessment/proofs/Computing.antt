@@ -10,10 +10,17 @@ use Rattle.assessment.specs.Assessment.{
   lastPrice,
   minimumOnline,
   scheduledBy,
+  dispatchedOn,
+  firstCurve,
+  dispatchedCurve,
   scheduled,
   firstKw,
   bonusCutBy,
   bonusCut,
+  looksAt,
+  countedFor,
+  highest,
+  economicBy,
   economicScheduled,
   consideredAs,
   considered,
@@ -62,5 +69,5 @@ use Rattle.assessment.specs.Assessment.{
 }
 
 unfoldable pub computing : ℕ
-unfolding reading-computing orZero actual orElse fromLastReached alongCurve lastPrice minimumOnline scheduledBy scheduled firstKw bonusCutBy bonusCut economicScheduled consideredAs considered ifConsidered portion expectedAs expected bonusActualAs bonus numeratorShareAs numeratorShare importShare numerator denominatorShareAs denominatorShare denominator ratioOf printedRatio outageAs outage available economicRule economicAs economic shortfall rowFigures emptyAccount accountOf raised added divisors limitOver limit chargeOver fullCharge charge chargedRow assessed charges totalBonus pool share credit credits carriedOn
+unfolding reading-computing orZero actual orElse fromLastReached alongCurve lastPrice minimumOnline scheduledBy dispatchedOn firstCurve dispatchedCurve scheduled firstKw bonusCutBy bonusCut looksAt countedFor highest economicBy economicScheduled consideredAs considered ifConsidered portion expectedAs expected bonusActualAs bonus numeratorShareAs numeratorShare importShare numerator denominatorShareAs denominatorShare denominator ratioOf printedRatio outageAs outage available economicRule economicAs economic shortfall rowFigures emptyAccount accountOf raised added divisors limitOver limit chargeOver fullCharge charge chargedRow assessed charges totalBonus pool share credit credits carriedOn
 computing = 0

@@ -25,8 +25,6 @@ use Rattle.assessment.specs.Assessment.{
   minimumOnline,
   scheduledBy,
   firstKw,
-  available,
-  bonusCutBy,
 }
 
 -- the price that a value's field holds in bits is that of its point
@@ -168,23 +166,6 @@ last-price (suc m) b =
     let next : pointBytes + pointBytes * m ≡ pointBytes * suc m = omega arith in
     let there = drop-drop (pointBytes * m) pointBytes b ∙ ap (λ k. drop k b) next in
     last-price m (drop pointBytes b) ∙ ap (λ c. pointOf c .price) there
-
--- a row with no points
-pub scheduled-none : (n : ℕ) (b : List ℕ) (r : Row) → n ≡ 0 → r .committed ≡ scheduledBy (pointsIn n b) r
-unfolding scheduledBy pointsIn entries
-scheduled-none n b r z = ap (λ k. scheduledBy (pointsIn k b) r) (sym z)
-
--- without points bonus is cut to what is available
-pub cut-none : (n : ℕ) (b : List ℕ) (r : Row) → n ≡ 0 → available r ≡ bonusCutBy (pointsIn n b) r
-unfolding bonusCutBy pointsIn entries
-cut-none n b r z = ap (λ k. bonusCutBy (pointsIn k b) r) (sym z)
-
--- with some it is cut to the scheduled kW
-pub cut-some : (n : ℕ) (b : List ℕ) (r : Row) → (n ≡ 0 → ⊥)
-    → scheduledBy (pointsIn n b) r ≡ bonusCutBy (pointsIn n b) r
-unfolding bonusCutBy pointsIn entries
-cut-some zero b r some = absurd (some refl)
-cut-some (suc n) b r some = refl
 
 -- a row with some points: the rule, by the first price and the last
 scheduled-some : (n : ℕ) (b : List ℕ) (r : Row) → 0 < n → scheduledBy (pointsIn n b) r

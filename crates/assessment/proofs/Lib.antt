@@ -9,5 +9,6 @@ pub mod RatioLaws
 pub mod RuleLaws
 pub mod CurveNumbers
 pub mod CurveLaws
+pub mod ScheduleLaws
 pub mod SumLaws
 pub mod Impostors

@@ -16,11 +16,11 @@ use Rattle.assessment.specs.Assessment.{
   orZero,
   actual,
   scheduledBy,
+  dispatchedCurve,
   scheduled,
   available,
   bonusCutBy,
   bonusCut,
-  economicScheduled,
   considered,
   ifConsidered,
   Ratio,
@@ -50,6 +50,7 @@ use Rattle.assessment.specs.Assessment.{
 use Rattle.assessment.specs.Values.{mostActual, mostNumerator}
 use Rattle.assessment.specs.Claims.{economicByCut, SameEconomic}
 use Rattle.assessment.proofs.KindLaws.{each-kind}
+use Rattle.assessment.proofs.ScheduleLaws.{economic-one}
 
 -- a figure that is given only if its row is considered is no larger
 pub if-le : (regionWide : ℕ) (r : Row) (x : ℕ) → ifConsidered regionWide r x ≤ x
@@ -116,11 +117,11 @@ economic-le r e =
     each-kind (λ k. economicAs k r e ≤ e)
     (omega arith) (omega arith) (omega arith) (omega arith) (omega arith) (omega arith) (omega arith) (kindOf (r .kind))
 
--- with points both are the scheduled kW; without, neither leaves the economic rule anything,
+-- with one schedule both are its scheduled kW; without points neither leaves the economic rule anything,
 -- as no more is expected than the committed kW
 pub same-economic : SameEconomic
-unfolding SameEconomic economicByCut economicRule bonusCutBy bonusCut economicScheduled scheduledBy scheduled
-same-economic q r = by (r .curve) (expected q r) (expected-le q r)
+unfolding SameEconomic economicByCut economicRule bonusCutBy bonusCut scheduledBy scheduled
+same-economic q r few = rw (economic-one r few) (by (dispatchedCurve r) (expected q r) (expected-le q r))
   where
     by : (ps : List Point) (e : ℕ) → e ≤ r .committed
         → min (r .maximum) (min e (available r)) - max (bonusCutBy ps r) (actual r)

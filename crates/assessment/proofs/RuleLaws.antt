@@ -13,6 +13,7 @@ use Rattle.assessment.specs.Assessment.{
   orZero,
   actual,
   fromLastReached,
+  dispatchedCurve,
   firstKw,
   bonusCut,
   consideredAs,
@@ -72,7 +73,7 @@ Producing k = (k ≡ 0) ⊎ (k ≡ 4)
 module _ (regionWide : ℕ) (r : Row) where
   -- a row of kind 3 is considered where its last point at or below the LMP is above 0 kW
   pub considered-responsive : r .kind ≡ 3
-      → ltb 0 (firstKw (fromLastReached (r .lmp) (r .curve))) ≡ considered regionWide r
+      → ltb 0 (firstKw (fromLastReached (r .lmp) (dispatchedCurve r))) ≡ considered regionWide r
   unfolding considered consideredAs kindOf
   considered-responsive e = rw e
 

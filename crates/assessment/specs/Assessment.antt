@@ -1,13 +1,30 @@
 -- The assessment of one interval, rule by rule, over rows and accounts. Figures are kW but for limit, charge, pool, credit and carried, which are cents.
 use Prim.Native.Nat.{ℕ, _+_, _-_, _*_, _/_, min, max}
 use mathlib.Core.List.{List, [], _∷_, map}
-use mathlib.Core.Bool.{Bool, true, false, cond}
+use mathlib.Core.Bool.{Bool, true, false, cond, not}
+use lib.ListN.{take, drop}
 use lib.IntN.{ℤ, pos, negsuc, natAbs, _+ℤ_, _-ℤ_}
 use lib.Dec.{ltb, eqb}
 use lib.Signed.{leZ, ltZ}
 use Rattle.words.specs.Lists.{sum}
 use Rattle.reading.specs.Block.{Terms, transitionYear}
-use Rattle.reading.specs.Interval.{Header, Point, Row, Kind, generation, demand, efficiency, responsive, energyOnly, importer, noKind, kindOf}
+use Rattle.reading.specs.Interval.{
+  market,
+  priceBased,
+  Header,
+  Point,
+  Schedule,
+  Row,
+  Kind,
+  generation,
+  demand,
+  efficiency,
+  responsive,
+  energyOnly,
+  importer,
+  noKind,
+  kindOf,
+}
 
 -- the ratio is printed in millionths
 abbrev pub wholeRatio : ℕ
@@ -63,9 +80,22 @@ scheduledBy (p ∷ ps) r =
     (cond (ltZ (lastPrice p ps) (r .lmp)) (r .maximum)
     (min (max (alongCurve (r .lmp) (fromLastReached (r .lmp) (p ∷ ps))) (minimumOnline r)) (r .maximum)))
 
--- Scheduled, by the row's own points
+-- the schedule that a row was dispatched on, or nothing
+unfoldable pub dispatchedOn : Row → List Schedule
+dispatchedOn r = take 1 (drop (r .dispatched) (r .schedules))
+
+-- the curve of the first of some schedules, without points if there is none
+unfoldable pub firstCurve : List Schedule → List Point
+firstCurve [] = []
+firstCurve (s ∷ ss) = s .curve
+
+-- the curve of the schedule that a row was dispatched on
+unfoldable pub dispatchedCurve : Row → List Point
+dispatchedCurve r = firstCurve (dispatchedOn r)
+
+-- Scheduled, by the schedule that a row was dispatched on
 unfoldable pub scheduled : Row → ℕ
-scheduled r = scheduledBy (r .curve) r
+scheduled r = scheduledBy (dispatchedCurve r) r
 
 -- the kW of the first of some points, 0 if there is none
 unfoldable pub firstKw : List Point → ℕ
@@ -81,20 +111,40 @@ unfoldable pub bonusCutBy : List Point → Row → ℕ
 bonusCutBy [] r = available r
 bonusCutBy (p ∷ ps) r = scheduledBy (p ∷ ps) r
 
--- what bonus is cut to, by the row's own points
+-- what bonus is cut to, by the schedule that a row was dispatched on
 unfoldable pub bonusCut : Row → ℕ
-bonusCut r = bonusCutBy (r .curve) r
+bonusCut r = bonusCutBy (dispatchedCurve r) r
 
--- the scheduled kW that the economic rule takes, with no points the committed kW
+-- whether a row dispatched on a schedule of one kind has the economic rule look at a schedule of another:
+-- on market at all, on price-based PLS at PLS and cost, on cost at none beside its own
+unfoldable pub looksAt : ℕ → ℕ → Bool
+looksAt on other = cond (eqb on market) true (cond (eqb on priceBased) (not (eqb other market)) false)
+
+-- what a schedule counts for a row dispatched on one of a kind: its scheduled kW if the economic rule looks at it
+unfoldable pub countedFor : ℕ → Row → Schedule → ℕ
+countedFor on r s = cond (looksAt on (s .kind)) (scheduledBy (s .curve) r) 0
+
+-- the highest that some schedules count
+unfoldable pub highest : ℕ → Row → List Schedule → ℕ
+highest on r [] = 0
+highest on r (s ∷ ss) = max (countedFor on r s) (highest on r ss)
+
+-- the scheduled kW that the economic rule takes, by the schedule dispatched on: with none the committed kW;
+-- else the highest, by that one or by one of the row's that the rule looks at
+unfoldable pub economicBy : List Schedule → Row → ℕ
+economicBy [] r = r .committed
+economicBy (s ∷ ss) r = max (scheduledBy (s .curve) r) (highest (s .kind) r (r .schedules))
+
+-- the scheduled kW that the economic rule takes
 unfoldable pub economicScheduled : Row → ℕ
-economicScheduled r = scheduled r
+economicScheduled r = economicBy (dispatchedOn r) r
 
 -- Considered, by the event's region-wide word: PRD if its last point at or below the LMP is above 0 kW, importers if region-wide, other kinds always
 unfoldable pub consideredAs : Kind → ℕ → Row → Bool
 consideredAs generation regionWide r = true
 consideredAs demand regionWide r = true
 consideredAs efficiency regionWide r = true
-consideredAs responsive regionWide r = ltb 0 (firstKw (fromLastReached (r .lmp) (r .curve)))
+consideredAs responsive regionWide r = ltb 0 (firstKw (fromLastReached (r .lmp) (dispatchedCurve r)))
 consideredAs energyOnly regionWide r = true
 consideredAs importer regionWide r = eqb regionWide 1
 consideredAs noKind regionWide r = false

@@ -2,6 +2,7 @@
 use Prim.Native.Nat.{ℕ, _-_, _*_, _≤_, min, max}
 use mathlib.Core.Path.{_≡_}
 use mathlib.Core.Bool.{cond}
+use lib.ListN.{length}
 use lib.Dec.{eqb}
 use Rattle.reading.specs.Block.{Terms, transitionYear}
 use Rattle.reading.specs.Interval.{Row}
@@ -11,9 +12,10 @@ use Rattle.assessment.specs.Assessment.{actual, bonusCut, Ratio, expecte
 unfoldable pub economicByCut : Row → ℕ → ℕ
 economicByCut r expect = min (r .maximum) (min expect (available r)) - max (bonusCut r) (actual r)
 
--- at any ratio that gives the same kW: no word of a result shows which of the two the economic rule takes
+-- at any ratio that gives the same kW where a row has one schedule or none, as each of format 1 has:
+-- no word of its result shows which of the two the economic rule takes
 unfoldable pub SameEconomic : Type 0
-SameEconomic = (q : Ratio) (r : Row) → economicByCut r (expected q r) ≡ economicRule r (expected q r)
+SameEconomic = (q : Ratio) (r : Row) → length (r .schedules) ≤ 1 → economicByCut r (expected q r) ≡ economicRule r (expected q r)
 
 -- the tariff's part of Net CONE, in hundredths: 0.75 for 2016, 1.5 for other years
 unfoldable pub hundredths : Terms → ℕ

@@ -4,7 +4,7 @@ use mathlib.Core.List.{List, [], _∷_}
 use lib.IntN.{ℤ, pos, negsuc}
 use Rattle.words.specs.Figures.{Figure, _gives_, AllAsStated, test}
 use Rattle.reading.specs.Block.{Terms}
-use Rattle.reading.specs.Interval.{Point, Row}
+use Rattle.reading.specs.Interval.{market, priceBased, cost, Point, Schedule, Row}
 use Rattle.reading.specs.Figures.{headerWith, at}
 use Rattle.assessment.specs.Assessment.{
   Ratio,
@@ -45,7 +45,12 @@ use Rattle.assessment.specs.Assessment.{
 }
 use Rattle.assessment.specs.Values.{mostCharge}
 
--- a row of id 1: kind, committed, owned, metered, adjustment, planned, forced, maximum, minimum, online, LMP and curve
+-- points are one market schedule, and no points no schedule
+abbrev pub marketOffer : List Point → List Schedule
+marketOffer [] = []
+marketOffer (p ∷ ps) = record { kind = market; curve = p ∷ ps } ∷ []
+
+-- a row of id 1: kind, committed, owned, metered, adjustment, planned, forced, maximum, minimum, online, LMP and the points of its market offer
 abbrev pub adjusted : ℕ → ℕ → ℕ → ℤ → ℤ → ℕ → ℕ → ℕ → ℕ → ℕ → ℤ → List Point → Row
 adjusted kind committed owned metered adjustment planned forced maximum minimum online lmp curve = record {
   id = 1;
@@ -60,7 +65,8 @@ adjusted kind committed owned metered adjustment planned forced maximum minimum 
   minimum = minimum;
   online = online;
   lmp = lmp;
-  curve = curve;
+  schedules = marketOffer curve;
+  dispatched = 0;
 }
 
 -- a row without adjustment
@@ -197,6 +203,50 @@ sharedWithImporter regionWide =
 unfoldable pub importerOf : ℕ → ChargedRow
 importerOf regionWide = chargedRow (terms 30000) [] regionWide (over 0 0) (importing (pos 30000) (pos 0))
 
+-- a row with these schedules, dispatched on one of them, counted from 0
+abbrev pub offering : List Schedule → ℕ → Row → Row
+offering schedules dispatched r = record {
+  id = r .id;
+  kind = r .kind;
+  committed = r .committed;
+  owned = r .owned;
+  metered = r .metered;
+  adjustment = r .adjustment;
+  planned = r .planned;
+  forced = r .forced;
+  maximum = r .maximum;
+  minimum = r .minimum;
+  online = r .online;
+  lmp = r .lmp;
+  schedules = schedules;
+  dispatched = dispatched;
+}
+
+-- a schedule of a kind by which so many kW are scheduled at an LMP of 3000
+abbrev pub giving : ℕ → ℕ → Schedule
+giving kind kw = record { kind = kind; curve = at (pos 3000) kw ∷ [] }
+
+-- one schedule of each kind, by which so many kW are scheduled: market, PLS and cost
+abbrev pub ofEach : ℕ → ℕ → ℕ → List Schedule
+ofEach byMarket byPLS byCost = giving market byMarket ∷ giving priceBased byPLS ∷ giving cost byCost ∷ []
+
+-- a row of a kind at that LMP that committed 100000 kW, owns 110000 and metered so many, with schedules
+abbrev pub unit : ℕ → ℤ → List Schedule → ℕ → Row
+unit kind metered schedules dispatched =
+    offering schedules dispatched (row kind 100000 110000 metered 0 0 110000 0 1 (pos 3000) [])
+
+-- a row with a market schedule from 2000 cents on and a cost schedule on curve A, at an LMP of 1500, online or not
+abbrev pub marketLater : ℕ → ℕ → Row
+marketLater online dispatched =
+    offering
+    (record { kind = market; curve = at (pos 2000) 30000 ∷ at (pos 6000) 90000 ∷ [] } ∷ record { kind = cost; curve = curveA } ∷ [])
+    dispatched
+    (row 0 0 0 (pos 0) 0 0 110000 20000 online (pos 1500) [])
+
+-- PRD of which one schedule ends at 0 kW and the other at 3000
+abbrev pub prdOfTwo : ℕ → Row
+prdOfTwo dispatched = offering (giving market 0 ∷ giving cost 3000 ∷ []) dispatched (prd (pos 3000))
+
 -- a pool of 557628 cents and no bonus
 unfoldable pub unshared : Assessed
 unshared = record { ratio = over 0 0; rows = withBonus 0 ∷ []; carried = 557628 }
@@ -245,6 +295,51 @@ workedFigures =
     -- the economic rule then takes the committed kW
     ∷ economicScheduled (withoutCurve 4 0 40000 0 0 40000) gives 0
     ∷ economicScheduled (withoutCurve 0 7 40000 0 0 40000) gives 7
+    -- dispatched on market the economic rule takes the highest of all schedules, on PLS that of PLS and cost, on cost that one's
+    ∷ economicScheduled (unit 0 (pos 0) (ofEach 90000 70000 60000) 0) gives 90000
+    ∷ economicScheduled (unit 0 (pos 0) (ofEach 90000 70000 60000) 1) gives 70000
+    ∷ economicScheduled (unit 0 (pos 0) (ofEach 90000 70000 60000) 2) gives 60000
+    -- also where it is not the one dispatched on
+    ∷ economicScheduled (unit 0 (pos 0) (ofEach 60000 70000 90000) 0) gives 90000
+    ∷ economicScheduled (unit 0 (pos 0) (ofEach 60000 70000 90000) 1) gives 90000
+    ∷ economicScheduled (unit 0 (pos 0) (ofEach 60000 90000 70000) 0) gives 90000
+    ∷ economicScheduled (unit 0 (pos 0) (ofEach 60000 90000 70000) 2) gives 70000
+    -- others of the same kind count too, but on cost
+    ∷ economicScheduled (unit 0 (pos 0) (giving market 60000 ∷ giving market 70000 ∷ []) 0) gives 70000
+    ∷ economicScheduled (unit 0 (pos 0) (giving priceBased 60000 ∷ giving market 90000 ∷ giving priceBased 70000 ∷ []) 0) gives 70000
+    ∷ economicScheduled (unit 0 (pos 0) (giving cost 60000 ∷ giving cost 90000 ∷ []) 0) gives 60000
+    ∷ economicScheduled (unit 0 (pos 0) (giving cost 60000 ∷ giving cost 90000 ∷ []) 1) gives 90000
+    -- a schedule that stands alone is taken whatever its kind
+    ∷ economicScheduled (unit 0 (pos 0) (giving priceBased 60000 ∷ []) 0) gives 60000
+    ∷ economicScheduled (unit 4 (pos 0) (giving cost 60000 ∷ []) 0) gives 60000
+    -- bonus is cut by the one dispatched on alone, higher or lower than the others
+    ∷ bonusCut (unit 0 (pos 0) (ofEach 60000 70000 90000) 0) gives 60000
+    ∷ bonusCut (unit 0 (pos 0) (ofEach 60000 70000 90000) 1) gives 70000
+    ∷ bonusCut (unit 4 (pos 0) (ofEach 60000 70000 90000) 2) gives 90000
+    ∷ bonus (unit 0 (pos 80000) (ofEach 60000 70000 90000) 0) 50000 gives 10000
+    -- each schedule goes by the row's LMP, limits and online word: below the first price the minimum, offline 0, on curve A 30000
+    ∷ bonusCut (marketLater 1 0) gives 20000
+    ∷ bonusCut (marketLater 0 0) gives 0
+    ∷ economicScheduled (marketLater 1 0) gives 30000
+    ∷ economicScheduled (marketLater 0 0) gives 30000
+    ∷ economicScheduled (marketLater 0 1) gives 30000
+    -- so a market offer above the cost one excuses no more than the cost one does: of 100000 kW expected 10000, not 40000
+    ∷ rowFigures 0 (over 1 1) (unit 0 (pos 50000) (giving market 60000 ∷ giving cost 90000 ∷ []) 0) .economic gives 10000
+    ∷ rowFigures 0 (over 1 1) (unit 0 (pos 50000) (giving market 60000 ∷ giving cost 90000 ∷ []) 0) .shortfall gives 40000
+    ∷ rowFigures 0 (over 1 1) (unit 0 (pos 50000) (giving market 60000 ∷ []) 0) .economic gives 40000
+    -- PRD goes by the schedule that it was dispatched on
+    ∷ test (considered 0 (prdOfTwo 0)) gives 0
+    ∷ test (considered 0 (prdOfTwo 1)) gives 1
+    -- kinds 1, 2 and 5 have no use for schedules
+    ∷ bonus (unit 1 (pos 120000) (ofEach 60000 70000 90000) 0) 100000 gives 20000
+    ∷ bonus (unit 2 (pos 120000) (ofEach 60000 70000 90000) 0) 100000 gives 20000
+    ∷ bonus (unit 5 (pos 120000) (ofEach 60000 70000 90000) 0) 0 gives 120000
+    ∷ economic (unit 1 (pos 50000) (ofEach 60000 70000 90000) 0) 100000 gives 0
+    ∷ economic (unit 2 (pos 50000) (ofEach 60000 70000 90000) 0) 100000 gives 0
+    ∷ economic (unit 5 (pos 50000) (ofEach 60000 70000 90000) 0) 100000 gives 0
+    ∷ test (considered 0 (unit 1 (pos 0) (ofEach 0 0 0) 0)) gives 1
+    ∷ test (considered 0 (unit 2 (pos 0) (ofEach 0 0 0) 0)) gives 1
+    ∷ test (considered 1 (unit 5 (pos 0) (ofEach 0 0 0) 0)) gives 1
     -- PRD without points is never considered, and a row is not considered for a region-wide event alone
     ∷ test (considered 0 (row 3 1 0 (pos 0) 0 0 0 0 0 (pos 1000000) [])) gives 0
     ∷ test (considered 1 (prd (pos 1999))) gives 0

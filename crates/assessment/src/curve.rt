@@ -12,7 +12,7 @@ ghost use lib.ListN.{length, drop};
 ghost use lib.Dec.{ltb};
 ghost use lib.IntN.{natAbs, _-ℤ_};
 ghost use lib.Signed.{leZ, mag};
-ghost use Rattle.reading.specs.Interval.{Point as CurvePoint, pointBytes, pointAt, pointsIn, rowWith};
+ghost use Rattle.reading.specs.Interval.{Schedule, pointBytes, pointAt, pointsIn, rowWith};
 ghost use Rattle.reading.specs.Values.{rowIn, pointIn};
 ghost use Rattle.assessment.specs.Assessment.{fromLastReached, alongCurve, minimumOnline, scheduledBy, firstKw};
 
@@ -91,7 +91,7 @@ fn on_curve(points: &[u8], n: usize, lmp: i64) -> Kilowatts
 
 // The economic minimum if online, else 0.
 fn minimum_online(row: Row) -> Kilowatts
-    ensures { λ r. ⌜ ((curve : List CurvePoint) → r .0 ≡ minimumOnline (rowWith (rowIn row) curve)) ⌝ }
+    ensures { λ r. ⌜ ((schedules : List Schedule) → r .0 ≡ minimumOnline (rowWith (rowIn row) schedules)) ⌝ }
 {
     if row.online == 1 {
         return Kilowatts(row.minimum);
@@ -101,12 +101,10 @@ fn minimum_online(row: Row) -> Kilowatts
 
 // Scheduled, of a row by the curve of n points that a part of its file starts with.
 pub fn scheduled(row: Row, points: &[u8], n: usize) -> Kilowatts
+    requires { ⌜ 0 < n ⌝ }
     requires { ⌜ pointBytes * n ≤ length (now points) ⌝ }
-    ensures { λ r. ⌜ ((curve : List CurvePoint) → r .0 ≡ scheduledBy (pointsIn n (now (points .entry))) (rowWith (rowIn row) curve)) ⌝ }
+    ensures { λ r. ⌜ ((schedules : List Schedule) → r .0 ≡ scheduledBy (pointsIn n (now (points .entry))) (rowWith (rowIn row) schedules)) ⌝ }
 {
-    if n == 0 {
-        return Kilowatts(row.committed);
-    }
     let lmp = row.lmp;
     let least = minimum_online(row);
     let most = Kilowatts(row.maximum);

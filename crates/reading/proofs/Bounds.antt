@@ -2,7 +2,7 @@
 use Prim.Native.Nat.{ℕ, _*_, _<_, _≤_}
 use mathlib.Core.Path.{_≡_}
 use mathlib.Core.Logic.{⊎-elim}
-use mathlib.Core.List.{List, List·Memᴰ}
+use mathlib.Core.List.{List, map, List·Memᴰ}
 use mathlib.Core.Bool.{true, false, _||_}
 use native.Mathlib.Omega.{arith}
 use lib.ListN.{length, drop}
@@ -36,10 +36,12 @@ use Rattle.reading.specs.Interval.{
   Header,
   Point,
   RowWords,
+  Schedule,
   Row,
   rowWordsOf,
+  schedulesNamed,
+  scheduleOf,
   rowWith,
-  curveOf,
   rowOf,
   rowsOf,
   headerOutside,
@@ -112,10 +114,10 @@ pub record RowIn (r : Row) : Type 0 where
   pub online : r .online ≤ 1
   pub lmp : natAbs (r .lmp) ≤ mostPrice
 
--- a row whose words ground 13 does not refuse keeps their bounds, whatever its curve
-pub row-in : (w : RowWords) (curve : List Point) → rowOutside w ≡ false → RowIn (rowWith w curve)
+-- a row whose words ground 13 does not refuse keeps their bounds, whatever its schedules
+pub row-in : (w : RowWords) (schedules : List Schedule) → rowOutside w ≡ false → RowIn (rowWith w schedules)
 unfolding rowOutside rowWith any beyond
-row-in w curve e = record {
+row-in w schedules e = record {
   kind = search facts depth 20;
   committed = search facts depth 20;
   owned = search facts depth 20;
@@ -143,4 +145,4 @@ point-in p e = record { price = search facts; kw = search facts }
 pub rows-in : (f : List ℕ) → any rowOutside (rowWordsOf f) ≡ false → (r : Row) → List·Memᴰ r (rowsOf f) → RowIn r
 unfolding rowOf
 rows-in f e r m =
-    each-mapped rowOutside (rowOf f) RowIn (λ w. row-in w (curveOf f w)) (rowWordsOf f) e r (rw rows-of-words at m)
+    each-mapped rowOutside (rowOf f) RowIn (λ w. row-in w (map (scheduleOf f) (schedulesNamed f w))) (rowWordsOf f) e r (rw rows-of-words at m)

@@ -16,31 +16,46 @@ use Rattle.reading.specs.Block.{
   idsOutOfOrder,
 }
 use Rattle.reading.specs.Interval.{
+  layoutOf,
   headerOf,
   pointOf,
   pointAt,
   rowWords,
   rowWordsAt,
   rowWordsOf,
+  scheduleWords,
+  tableSchedules,
+  asSchedule,
+  schedulesNamed,
+  scheduleAt,
   curvePart,
   pointsIn,
   curveOf,
+  scheduleOf,
   rowWith,
   rowOf,
   rowsOf,
   kindOf,
+  fileSizes,
   notAFile,
   headerOutside,
+  leaves,
+  meet,
+  placesOutside,
   tablesMisplaced,
   rowOutside,
+  schedulesBeyond,
+  kindOutside,
+  schedulesOutside,
   pointOutside,
   fallsAfter,
   falls,
   curveMisplaced,
+  curveOutside,
   pointsOutside,
   rowGrounds,
 }
 
 unfoldable pub computing : ℕ
-unfolding words-computing sizesOutside notOfFormats blockHeaderBytes blockSizes yearNamed blockWords blockOf notABlock termsOutside yearOutside yearUnknown idsMisplaced idsOutOfOrder headerOf pointOf pointAt rowWords rowWordsAt rowWordsOf curvePart pointsIn curveOf rowWith rowOf rowsOf kindOf notAFile headerOutside tablesMisplaced rowOutside pointOutside fallsAfter falls curveMisplaced pointsOutside rowGrounds
+unfolding words-computing sizesOutside notOfFormats blockHeaderBytes blockSizes yearNamed blockWords blockOf notABlock termsOutside yearOutside yearUnknown idsMisplaced idsOutOfOrder layoutOf headerOf pointOf pointAt rowWords rowWordsAt rowWordsOf scheduleWords tableSchedules asSchedule schedulesNamed scheduleAt curvePart pointsIn curveOf scheduleOf rowWith rowOf rowsOf kindOf fileSizes notAFile headerOutside leaves meet placesOutside tablesMisplaced rowOutside schedulesBeyond kindOutside schedulesOutside pointOutside fallsAfter falls curveMisplaced curveOutside pointsOutside rowGrounds
 computing = 0

@@ -1,19 +1,19 @@
--- What each test that the code makes of a row's points says of ground 14.
+-- What each test that the code makes of a schedule's points says of ground 14.
 use Prim.Native.Nat.{ℕ, _+_, _-_, _≤_, _<_}
-use mathlib.Core.Path.{_≡_, _∙_}
+use mathlib.Core.Path.{_≡_}
 use mathlib.Core.List.{List, [], _∷_}
-use mathlib.Core.Bool.{true, false, _&&_, or-false}
+use mathlib.Core.Bool.{true, false, or-false}
 use native.Mathlib.Omega.{arith}
-use borrow.Author.Tests.{lt-ltb, le-ltb, ltb-false}
+use borrow.Author.Tests.{lt-ltb, le-ltb}
 use lib.Dec.{ltb}
 use lib.Signed.{ltZ}
 use Rattle.words.specs.Grounds.{beyond}
-use Rattle.words.proofs.Tests.{not-second}
+use Rattle.words.proofs.Tests.{lies-inside, lies-below, lies-above, facts}
 use Rattle.reading.specs.Interval.{
-  mostRowPoints,
+  mostCurvePoints,
   mostKilowatts,
   mostPrice,
-  RowWords,
+  ScheduleWords,
   Point,
   pointOutside,
   fallsAfter,
@@ -24,40 +24,37 @@ use Rattle.reading.specs.Interval.{
 }
 use Rattle.reading.proofs.SpanTests.{same-test}
 
--- the number of a row's points, and their place
-module _ (points : ℕ) (w : RowWords) where
-  -- more points than a row may have are refused
-  pub count-above : mostRowPoints < w .count → curveMisplaced points w ≡ true
-  unfolding curveMisplaced
-  count-above h = rw (lt-ltb mostRowPoints (w .count) h)
+-- so many entries of a table, from one of them on
+module _ (table first count : ℕ) where
+  -- more than the table has reach beyond it
+  pub reach-short : table < count → ltb table (first + count) ≡ true
+  reach-short h = lt-ltb table (first + count) (omega arith)
 
-  -- a row without points is not refused for their number or place
-  pub none-named : w .count ≡ 0 → curveMisplaced points w ≡ false
+  -- no more than that reach beyond it just where the first stands too late
+  pub reach-late : count ≤ table → ltb table (first + count) ≡ ltb (table - count) first
+  reach-late h = same-test table (first + count) (table - count) first (λ p. omega arith) (λ p. omega arith)
+
+-- the number of a schedule's points, and their place
+module _ (points : ℕ) (s : ScheduleWords) where
+  -- a schedule without points is refused
+  pub count-none : s .count < 1 → curveMisplaced points s ≡ true
   unfolding curveMisplaced
-  none-named h = rw h
+  count-none h = rw (lies-below 1 mostCurvePoints (s .count) h)
+
+  -- more points than a schedule may have are refused
+  pub count-above : mostCurvePoints < s .count → curveMisplaced points s ≡ true
+  unfolding curveMisplaced
+  count-above h = rw (lies-above 1 mostCurvePoints (s .count) h)
 
   -- where there are some points, but not too many, the place decides: they must end within the file's points
-  some-named : w .count ≤ mostRowPoints → 0 < w .count → curveMisplaced points w ≡ ltb points (w .first + w .count)
+  pub place-left : 1 ≤ s .count → s .count ≤ mostCurvePoints → curveMisplaced points s ≡ ltb points (s .first + s .count)
   unfolding curveMisplaced
-  some-named few some = rw (le-ltb mostRowPoints (w .count) few, lt-ltb 0 (w .count) some)
+  place-left some few = rw (lies-inside 1 mostCurvePoints (s .count) some few)
 
-  -- more points than the file has are refused
-  pub table-short : w .count ≤ mostRowPoints → 0 < w .count → points < w .count → curveMisplaced points w ≡ true
-  table-short few some h = some-named few some ∙ lt-ltb points (w .first + w .count) (omega arith)
-
-  -- no more than the file has are refused just where the first of them stands too late
-  pub first-late : w .count ≤ mostRowPoints → 0 < w .count → w .count ≤ points
-      → curveMisplaced points w ≡ ltb (points - w .count) (w .first)
-  first-late few some h =
-      some-named few some
-      ∙ same-test points (w .first + w .count) (points - w .count) (w .first) (λ p. omega arith) (λ p. omega arith)
-
-  -- points that are in place end within the file's points, if there are any
-  pub points-end : curveMisplaced points w ≡ false → 0 < w .count → w .first + w .count ≤ points
+  -- points that are in place end within the file's points
+  pub points-end : curveMisplaced points s ≡ false → s .first + s .count ≤ points
   unfolding curveMisplaced
-  points-end e some =
-      let rest = not-second (ltb mostRowPoints (w .count)) (ltb 0 (w .count) && ltb points (w .first + w .count)) e in
-      ltb-false points (w .first + w .count) (rw (lt-ltb 0 (w .count) some) at rest)
+  points-end e = search facts
 
 -- a point by itself
 module _ (p : Point) where

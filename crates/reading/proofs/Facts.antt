@@ -1,12 +1,13 @@
 -- What grounds 1, 3, 7 and 11 leave known of a block and a file once they are ruled out.
-use Prim.Native.Nat.{ℕ, _+_, _≤_, _<_}
+use Prim.Native.Nat.{ℕ, _+_, _*_, _≤_, _<_}
 use mathlib.Core.Path.{_≡_, sym, ap, subst, _∙_}
 use mathlib.Core.List.{List, [], _∷_}
 use mathlib.Core.Bool.{false}
-use lib.ListN.{length}
+use lib.ListN.{length, getD}
 use native.Mathlib.Omega.{arith}
+use Rattle.words.specs.Lists.{any}
 use Rattle.words.specs.Grounds.{outside, liesFrom}
-use Rattle.words.proofs.Tests.{facts, not-outside}
+use Rattle.words.proofs.Tests.{facts}
 use Rattle.reading.specs.Block.{
   blockHeaderBytes,
   blockSizes,
@@ -16,21 +17,30 @@ use Rattle.reading.specs.Block.{
   idsMisplaced,
 }
 use Rattle.reading.specs.Interval.{
-  headerBytes,
-  mostFileBytes,
+  curvesFormat,
+  layoutOf,
+  fileLayout,
+  pointBytes,
+  scheduleBytes,
+  Table,
   RowWords,
   headerOf,
   rowWordsAt,
   rowOf,
   rowsOf,
+  fileSizes,
   notAFile,
+  leaves,
+  placesOutside,
   tablesMisplaced,
 }
 use Rattle.reading.specs.Values.{termsIn, blockIn, headerIn, BlockRead, Listed, HeaderRead, Tabled}
 use Rattle.reading.specs.declared.block.Block.{Block as BlockValue}
 use Rattle.reading.specs.declared.header.Header.{Header as HeaderValue}
+use Rattle.reading.proofs.Layouts.{entry-lies}
 use Rattle.reading.proofs.Bounds.{length-ids}
-use Rattle.reading.proofs.SpanTests.{has-least}
+use Rattle.reading.proofs.SpanTests.{has-least, stretch-lies}
+use Rattle.reading.proofs.Tables.{none-place}
 use Rattle.reading.proofs.RowsLeft.{length-rows, rowsLeft, rows-turn, rows-end}
 
 -- a block that ground 1 does not refuse has the words that stand before its ids
@@ -38,12 +48,10 @@ pub block-has-header : (b : List ℕ) → notABlock b ≡ false → blockHeaderB
 unfolding notABlock blockSizes blockWords
 block-has-header b e = has-least blockSizes b e
 
--- a file that ground 7 does not refuse has its ten words
-pub file-has-header : (f : List ℕ) → notAFile f ≡ false → headerBytes ≤ length f
-unfolding notAFile
-file-has-header f e =
-    let range : outside headerBytes mostFileBytes (length f) ≡ false = search facts in
-    not-outside headerBytes mostFileBytes (length f) range .0
+-- a file that ground 7 does not refuse has the words of its header
+pub file-has-header : (f : List ℕ) → notAFile f ≡ false → fileLayout f .headerBytes ≤ length f
+unfolding notAFile fileSizes headerOf
+file-has-header f e = has-least fileSizes f e
 
 -- a value of a block
 module _ {b : List ℕ} {v : BlockValue} where
@@ -70,24 +78,66 @@ module _ {b : List ℕ} {v : BlockValue} where
   unfolding blockIn
   length-listed l = length-ids b ∙ sym (ap (λ w. w .idCount) (l .read .says))
 
+-- three tables that are in place lie within the end
+tables-lie : (from end : ℕ) (rows points schedules : Table) → placesOutside from end rows points schedules ≡ false
+    → (rows .at + rows .bytes ≤ end) × (points .at + points .bytes ≤ end) × (schedules .at + schedules .bytes ≤ end)
+unfolding placesOutside leaves
+tables-lie from end rows points schedules e =
+    let all : any (leaves from end) (rows ∷ points ∷ schedules ∷ []) ≡ false = search facts in
+    let lies : (k : ℕ) → k < 3 → leaves from end (getD (rows ∷ points ∷ schedules ∷ []) k rows) ≡ false =
+    λ k h. none-place (leaves from end) rows (rows ∷ points ∷ schedules ∷ []) k all h in
+    (table-lies from end rows (lies 0 (omega arith)), table-lies from end points (lies 1 (omega arith)), table-lies from end schedules (lies 2 (omega arith)))
+  where
+    table-lies : (from end : ℕ) (t : Table) → leaves from end t ≡ false → t .at + t .bytes ≤ end
+    table-lies from end t e = stretch-lies from end (t .at) (t .bytes) e
+
+-- a number that is the file's format, with the words of its header
+pub format-read : (f : List ℕ) {format : ℕ} → format ≡ headerOf f .format → fileLayout f .headerBytes ≤ length f
+    → (layoutOf format .headerBytes ≤ length f) × (format ≡ headerOf f .format)
+format-read f is long = (subst (λ n. layoutOf n .headerBytes ≤ length f) (sym is) long, is)
+
 -- a value of a file's header
 module _ {f : List ℕ} {h : HeaderValue} where
   -- that says its words is read from it, where ground 7 does not refuse the file
   pub header-read : notAFile f ≡ false → headerIn h ≡ headerOf f → HeaderRead f h
-  header-read e says = record { long = file-has-header f e; says = says }
+  unfolding headerIn
+  header-read e says =
+      record { long = subst (λ h. layoutOf (h .format) .headerBytes ≤ length f) (sym says) (file-has-header f e); says = says }
 
   -- and where ground 11 does not refuse it, its tables lie within it
   pub tabled : HeaderRead f h → tablesMisplaced f ≡ false → Tabled f h
-  unfolding tablesMisplaced headerIn outside liesFrom
+  unfolding tablesMisplaced headerIn outside
   tabled r e =
       let misplaced = rw (← r .says) at e in
+      let rows : Table = record { at = h .«rows_at»; bytes = layoutOf (h .format) .rowBytes * h .rows } in
+      let points : Table = record { at = h .«points_at»; bytes = pointBytes * h .points } in
+      let schedules : Table = record { at = h .«schedules_at»; bytes = scheduleBytes * h .schedules } in
+      let places : placesOutside (layoutOf (h .format) .headerBytes) (length f) rows points schedules ≡ false = search facts in
+      let lie = tables-lie _ _ rows points schedules places in
       record {
         read = r;
         rows-few = search facts depth 9;
         points-few = search facts depth 9;
-        rows-lie = search facts depth 9;
-        points-lie = search facts depth 9;
+        schedules-few = search facts depth 9;
+        rows-lie = lie .0;
+        points-lie = lie .1;
+        schedules-lie = lie .2;
       }
+
+  -- has the file's format
+  pub format-said : HeaderRead f h → h .format ≡ headerOf f .format
+  unfolding headerIn
+  format-said r = ap (λ h. h .format) (r .says)
+
+  -- which is not 1 where the header's is not
+  pub other-said : HeaderRead f h → (h .format ≡ curvesFormat → ⊥) → headerOf f .format ≡ curvesFormat → ⊥
+  other-said r other e = other (format-said r ∙ e)
+
+  -- row i, of so many bytes as the format says, lies within the file
+  pub row-lies : Tabled f h → (bytes : ℕ) → bytes ≡ layoutOf (h .format) .rowBytes → (i : ℕ) → i < h .rows
+      → h .«rows_at» + bytes * i + bytes ≤ length f
+  row-lies t bytes is i below =
+      rw is (entry-lies (layoutOf (h .format) .rowBytes) (h .rows) (h .«rows_at») (length f) i (t .rows-lie) below)
 
   -- has the file's number of rows
   pub row-count : HeaderRead f h → h .rows ≡ headerOf f .rowCount
@@ -98,6 +148,11 @@ module _ {f : List ℕ} {h : HeaderValue} where
   pub point-count : HeaderRead f h → h .points ≡ headerOf f .pointCount
   unfolding headerIn
   point-count r = ap (λ h. h .pointCount) (r .says)
+
+  -- and of schedules
+  pub schedule-count : HeaderRead f h → h .schedules ≡ headerOf f .scheduleCount
+  unfolding headerIn
+  schedule-count r = ap (λ h. h .scheduleCount) (r .says)
 
   -- below the number of rows, the rows from i on are the one that is read there and those from i + 1 on
   pub next-row : HeaderRead f h → (i : ℕ) {w : RowWords} → i < h .rows → w ≡ rowWordsAt f i

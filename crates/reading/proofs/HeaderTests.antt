@@ -2,7 +2,7 @@
 use Prim.Native.Nat.{ℕ, zero, suc, _*_, _≤_, _<_}
 use mathlib.Core.Path.{_≡_, refl, sym, ap}
 use mathlib.Core.List.{List}
-use mathlib.Core.Bool.{Bool, true, false, not, or-true}
+use mathlib.Core.Bool.{true, false, or-true}
 use native.Mathlib.Omega.{arith}
 use borrow.Author.Tests.{lt-ltb, le-ltb, le-leb, lt-leb, ltb-true, ltb-false}
 use lib.ListN.{length}
@@ -11,20 +11,26 @@ use lib.Signed.{ltZ, mag}
 use mir.Syntax.{w64}
 use mir.Val.{toZ, ofZ}
 use mir.ValLaws.{toZ-pos}
-use Rattle.words.specs.Grounds.{beyond, liesFrom, overlap}
+use Rattle.words.specs.Lists.{any}
+use Rattle.words.specs.Grounds.{beyond}
 use Rattle.words.proofs.Ints.{never, plain}
 use Rattle.words.proofs.Tests.{lies-inside, lies-below, lies-above}
 use Rattle.reading.specs.Interval.{
-  headerBytes,
+  layoutOf,
+  pointBytes,
+  scheduleBytes,
   intervalsPerDay,
   mostImports,
   mostRows,
   mostPoints,
-  rowBytes,
-  pointBytes,
+  mostSchedules,
+  Table,
   Header,
   headerOf,
   headerOutside,
+  leaves,
+  meet,
+  placesOutside,
   tablesMisplaced,
 }
 
@@ -77,20 +83,42 @@ module _ (h : Header) where
   imports-left early flag =
       rw (lt-leb (intervalsPerDay * h .days) (h .interval) early, le-ltb 1 (h .regionWide) flag)
 
+-- three tables and the bytes from one to another: one test that fails decides
+module _ (from end : ℕ) (rows points schedules : Table) where
+  -- the table of rows leaves the bytes
+  pub rows-leave : leaves from end rows ≡ true → placesOutside from end rows points schedules ≡ true
+  unfolding placesOutside any
+  rows-leave p = rw p
+
+  -- the table of points does
+  pub points-leave : leaves from end points ≡ true → placesOutside from end rows points schedules ≡ true
+  unfolding placesOutside any
+  points-leave p = rw (p, or-true)
+
+  -- the table of schedules does
+  pub schedules-leave : leaves from end schedules ≡ true → placesOutside from end rows points schedules ≡ true
+  unfolding placesOutside any
+  schedules-leave p = rw (p, or-true (leaves from end points), or-true (leaves from end rows))
+
+  -- rows and points share a byte
+  pub points-meet : meet rows points ≡ true → placesOutside from end rows points schedules ≡ true
+  unfolding placesOutside
+  points-meet p = rw (p, or-true)
+
+  -- rows and schedules do
+  pub schedules-meet : meet rows schedules ≡ true → placesOutside from end rows points schedules ≡ true
+  unfolding placesOutside
+  schedules-meet p = rw (p, or-true)
+
+  -- where each lies in place and the rows share no byte, points and schedules decide
+  pub last-meet : leaves from end rows ≡ false → leaves from end points ≡ false → leaves from end schedules ≡ false
+      → meet rows points ≡ false → meet rows schedules ≡ false
+      → placesOutside from end rows points schedules ≡ meet points schedules
+  unfolding placesOutside any
+  last-meet a b c d e = rw (a, b, c, d, e)
+
 -- ground 11, of a file whose header is known: one test that fails decides
 module _ (f : List ℕ) (h : Header) (says : h ≡ headerOf f) where
-  -- whether the table of rows does not lie between the header and the file's end
-  abbrev pub rowsLeave : Bool
-  rowsLeave = not (liesFrom headerBytes (length f) (h .rowsOffset) (rowBytes * h .rowCount))
-
-  -- whether the table of points does not
-  abbrev pub pointsLeave : Bool
-  pointsLeave = not (liesFrom headerBytes (length f) (h .pointsOffset) (pointBytes * h .pointCount))
-
-  -- whether the two share a byte
-  abbrev pub tablesMeet : Bool
-  tablesMeet = overlap (h .rowsOffset) (rowBytes * h .rowCount) (h .pointsOffset) (pointBytes * h .pointCount)
-
   -- ground 11 refuses a file of no rows
   pub rows-none : h .rowCount < 1 → tablesMisplaced f ≡ true
   unfolding tablesMisplaced
@@ -106,20 +134,19 @@ module _ (f : List ℕ) (h : Header) (says : h ≡ headerOf f) where
   unfolding tablesMisplaced
   points-many p = rw (← says, lt-ltb mostPoints (h .pointCount) p, or-true)
 
-  -- ground 11 refuses a table of rows that does not lie between the header and the file's end
-  pub rows-leave : rowsLeave ≡ true → tablesMisplaced f ≡ true
+  -- ground 11 refuses a file of more than the most schedules
+  pub schedules-many : mostSchedules < h .scheduleCount → tablesMisplaced f ≡ true
   unfolding tablesMisplaced
-  rows-leave p = rw (← says, p, or-true)
+  schedules-many p = rw (← says, lt-ltb mostSchedules (h .scheduleCount) p, or-true)
 
-  -- ground 11 refuses a table of points that does not lie between the header and the file's end
-  pub points-leave : pointsLeave ≡ true → tablesMisplaced f ≡ true
+  -- with numbers in range, the places of the tables decide
+  pub places-left : 1 ≤ h .rowCount → h .rowCount ≤ mostRows → h .pointCount ≤ mostPoints → h .scheduleCount ≤ mostSchedules
+      → tablesMisplaced f
+      ≡ placesOutside (layoutOf (h .format) .headerBytes) (length f)
+      (record { at = h .rowsOffset; bytes = layoutOf (h .format) .rowBytes * h .rowCount })
+      (record { at = h .pointsOffset; bytes = pointBytes * h .pointCount })
+      (record { at = h .schedulesOffset; bytes = scheduleBytes * h .scheduleCount })
   unfolding tablesMisplaced
-  points-leave p = rw (← says, p, or-true)
-
-  -- with numbers in range and both tables in place, ground 11 refuses just where they share a byte
-  pub tables-left : 1 ≤ h .rowCount → h .rowCount ≤ mostRows → h .pointCount ≤ mostPoints
-      → rowsLeave ≡ false → pointsLeave ≡ false → tablesMisplaced f ≡ tablesMeet
-  unfolding tablesMisplaced
-  tables-left low high few rows-lie points-lie =
+  places-left low high points schedules =
       let number = lies-inside 1 mostRows (h .rowCount) low high in
-      rw (← says, number, le-ltb mostPoints (h .pointCount) few, rows-lie, points-lie)
+      rw (← says, number, le-ltb mostPoints (h .pointCount) points, le-ltb mostSchedules (h .scheduleCount) schedules)

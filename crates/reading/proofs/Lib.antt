@@ -5,6 +5,8 @@ pub mod Order
 pub mod Tables
 pub mod Bounds
 pub mod Facts
+pub mod Layouts
+pub mod Schedules
 pub mod RowsLeft
 pub mod SoundRows
 pub mod Parts
@@ -12,5 +14,6 @@ pub mod SpanTests
 pub mod BlockTests
 pub mod HeaderTests
 pub mod RowTests
+pub mod ScheduleTests
 pub mod CurveTests
 pub mod ScanTests

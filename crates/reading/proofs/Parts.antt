@@ -5,7 +5,6 @@ use mathlib.Core.List.{List}
 use mathlib.Core.Bool.{Bool}
 use native.Mathlib.Omega.{arith}
 use borrow.Rule.Slice.PartAt.{part-to-end}
-use borrow.Author.Tests.{eq-eqb, ne-eqb}
 use lib.ListN.{length, take, drop, length-drop}
 use lib.IntN.{ℤ}
 use lib.Signed.{mag}
@@ -15,7 +14,7 @@ use Rattle.words.specs.Words.{numberAt, word32, signed}
 use Rattle.words.specs.Grounds.{beyond}
 use Rattle.words.proofs.Access.{numberAt-drop}
 use Rattle.words.proofs.Ints.{plain}
-use Rattle.reading.specs.Interval.{pointBytes, Header, RowWords, headerOf, curvePart}
+use Rattle.reading.specs.Interval.{pointBytes, Header, ScheduleWords, headerOf, curvePart}
 
 -- a field that holds the signed number of a word holds that of any word equal to it
 pub signed-field : (z : ℤ) {w v : ℕ} → z ≡ signed w → mag z < 2147483648 → w ≡ v → toZ w64 (ofZ w64 z) ≡ signed v
@@ -39,20 +38,8 @@ part-at b a at e = part-to-end b a ∙ ap (λ k. drop k b) e
 pub length-part : (b : List ℕ) (a : ℕ) → length (take (length b - a) (drop a b)) ≡ length b - a
 length-part b a = ap length (part-to-end b a) ∙ length-drop a b
 
--- where the points of a row of a file begin, the header's offset being known
-module _ (f : List ℕ) (h : Header) (w : RowWords) (says : h ≡ headerOf f) where
-  -- the place of the first
-  abbrev pub firstPoint : ℕ
-  firstPoint = h .pointsOffset + pointBytes * w .first
-
-  -- without points, where the table does
-  pub curve-none : w .count ≡ 0 → take (length f - h .pointsOffset) (drop (h .pointsOffset) f) ≡ curvePart f w
-  unfolding curvePart
-  curve-none none =
-      let at = h .pointsOffset in
-      rw (← says, eq-eqb (w .count) 0 none) (part-at f at (at + pointBytes * 0) (omega arith))
-
-  -- with points, at the first of them
-  pub curve-some : 0 < w .count → take (length f - firstPoint) (drop firstPoint f) ≡ curvePart f w
-  unfolding curvePart
-  curve-some some = rw (← says, ne-eqb (w .count) 0 (λ e. omega arith)) (part-to-end f firstPoint)
+-- the part of a file from a schedule's first point on, the header's offset being known
+pub curve-part : (f : List ℕ) (h : Header) (s : ScheduleWords) → h ≡ headerOf f
+    → (let at = h .pointsOffset + pointBytes * s .first in take (length f - at) (drop at f) ≡ curvePart f s)
+unfolding curvePart
+curve-part f h s says = rw (← says) (part-to-end f (h .pointsOffset + pointBytes * s .first))

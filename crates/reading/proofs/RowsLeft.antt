@@ -1,12 +1,12 @@
 -- The rows of a file, walked by index, and the points of a curve: what is left of them from one on.
 use Prim.Native.Nat.{ℕ, zero, suc, _+_, _-_, _*_, _≤_, _<_}
 use mathlib.Core.Path.{_≡_, refl, sym, ap, ap₂, _∙_}
-use mathlib.Core.List.{List, [], _∷_, map}
+use mathlib.Core.List.{List, [], _∷_, map, map-map}
 use mathlib.Core.Bool.{Bool, false, _||_, _&&_}
 use native.Mathlib.Numerals.{add-one}
 use native.Mathlib.Omega.{arith}
 use borrow.Author.Tests.{lt-ltb}
-use lib.ListN.{length, drop}
+use lib.ListN.{length, drop, length-map}
 use lib.Dec.{ltb}
 use lib.Signed.{ltZ}
 use Rattle.words.specs.Lists.{any}
@@ -14,8 +14,8 @@ use Rattle.words.proofs.Tests.{not-first, not-second}
 use Rattle.words.proofs.Lists.{any-map}
 use Rattle.words.proofs.Words.{length-entries}
 use Rattle.reading.specs.Interval.{
-  rowBytes,
   pointBytes,
+  fileLayout,
   Point,
   RowWords,
   Row,
@@ -35,7 +35,7 @@ use Rattle.reading.specs.Interval.{
   pointRefused,
 }
 use Rattle.reading.proofs.Bools.{or-apart, or-then}
-use Rattle.reading.proofs.Tables.{entriesFrom, table-start, table-turn, table-turn-at, table-end, map-entries}
+use Rattle.reading.proofs.Tables.{entriesFrom, table-start, table-turn, table-turn-at, table-end}
 
 -- one point falls from none
 falls-short : (ps : List Point) → length ps ≤ 1 → falls ps ≡ false
@@ -142,57 +142,64 @@ module _ (f : List ℕ) where
   abbrev table : List ℕ
   table = drop (headerOf f .rowsOffset) f
 
-  -- the row at the front of a part of the file
-  abbrev rowFront : List ℕ → Row
-  rowFront b = rowOf f (rowWords b)
+  -- the words of the row at the front of a part of the file
+  abbrev rowFront : List ℕ → RowWords
+  rowFront = rowWords (headerOf f .format)
+
+  -- from one row to the next
+  abbrev stride : ℕ
+  stride = fileLayout f .rowBytes
 
   -- the words of the rows from i on
   unfoldable pub wordsLeft : ℕ → List RowWords
-  wordsLeft = entriesFrom rowBytes rowWords (headerOf f .rowCount) table
+  wordsLeft = entriesFrom stride rowFront (headerOf f .rowCount) table
 
   -- before any row is read, the words of all are left
   pub words-start : rowWordsOf f ≡ wordsLeft 0
   unfolding rowWordsOf wordsLeft
-  words-start = table-start rowBytes rowWords (headerOf f .rowCount) table
+  words-start = table-start stride rowFront (headerOf f .rowCount) table
 
   -- below the count, those from i on are row i's and those from i + 1 on
   pub words-turn : (i : ℕ) → i < headerOf f .rowCount → wordsLeft i ≡ rowWordsAt f i ∷ wordsLeft (i + 1)
   unfolding wordsLeft rowWordsAt
-  words-turn = table-turn-at rowBytes rowWords (headerOf f .rowCount) (headerOf f .rowsOffset) f
+  words-turn = table-turn-at stride rowFront (headerOf f .rowCount) (headerOf f .rowsOffset) f
 
   -- from the count on, none are left
   pub words-end : (i : ℕ) → headerOf f .rowCount ≤ i → wordsLeft i ≡ []
   unfolding wordsLeft
-  words-end = table-end rowBytes rowWords (headerOf f .rowCount) table
+  words-end = table-end stride rowFront (headerOf f .rowCount) table
 
   -- the rows from i on
   unfoldable pub rowsLeft : ℕ → List Row
-  rowsLeft = entriesFrom rowBytes rowFront (headerOf f .rowCount) table
+  rowsLeft i = map (rowOf f) (wordsLeft i)
+
+  -- each of its rows is made of the words of one
+  pub rows-of-words : rowsOf f ≡ map (rowOf f) (rowWordsOf f)
+  unfolding rowsOf
+  rows-of-words = refl
 
   -- before any row is read, all rows of the file are left
   pub rows-start : rowsOf f ≡ rowsLeft 0
-  unfolding rowsOf rowsLeft
-  rows-start = table-start rowBytes rowFront (headerOf f .rowCount) table
+  unfolding rowsLeft
+  rows-start = rows-of-words ∙ ap (map (rowOf f)) words-start
 
   -- below the count, the rows from i on are row i and those from i + 1 on
   pub rows-turn : (i : ℕ) → i < headerOf f .rowCount → rowsLeft i ≡ rowOf f (rowWordsAt f i) ∷ rowsLeft (i + 1)
-  unfolding rowsLeft rowWordsAt
-  rows-turn = table-turn-at rowBytes rowFront (headerOf f .rowCount) (headerOf f .rowsOffset) f
+  unfolding rowsLeft
+  rows-turn i h = ap (map (rowOf f)) (words-turn i h)
 
   -- from the count on, no row is left
   pub rows-end : (i : ℕ) → headerOf f .rowCount ≤ i → rowsLeft i ≡ []
   unfolding rowsLeft
-  rows-end = table-end rowBytes rowFront (headerOf f .rowCount) table
+  rows-end i h = ap (map (rowOf f)) (words-end i h)
 
   -- it has as many rows as word 6 of its header says
   pub length-rows : length (rowsOf f) ≡ headerOf f .rowCount
-  unfolding rowsOf
-  length-rows = length-entries rowBytes rowFront (headerOf f .rowCount) table
-
-  -- each of its rows is made of the words of one
-  pub rows-of-words : rowsOf f ≡ map (rowOf f) (rowWordsOf f)
-  unfolding rowsOf rowWordsOf
-  rows-of-words = sym (map-entries rowBytes rowWords (rowOf f) (headerOf f .rowCount) table)
+  unfolding rowWordsOf
+  length-rows =
+      ap length rows-of-words
+      ∙ length-map (rowWordsOf f) (rowOf f)
+      ∙ length-entries stride rowFront (headerOf f .rowCount) table
 
   -- a test of its rows is one of their words
   pub any-rows : (p : Row → Bool) → any p (rowsOf f) ≡ any (λ w. p (rowOf f w)) (rowWordsOf f)
@@ -200,8 +207,5 @@ module _ (f : List ℕ) where
 
   -- the ids of its rows are those of their words
   pub row-ids : map (λ r. r .id) (rowsOf f) ≡ map (λ w. w .id) (rowWordsOf f)
-  unfolding rowsOf rowWordsOf rowOf rowWith
-  row-ids =
-      let n = headerOf f .rowCount in
-      map-entries rowBytes rowFront (λ r. r .id) n table
-      ∙ sym (map-entries rowBytes rowWords (λ w. w .id) n table)
+  unfolding rowOf rowWith
+  row-ids = ap (map (λ r. r .id)) rows-of-words ∙ map-map (λ r. r .id) (rowOf f) (rowWordsOf f)

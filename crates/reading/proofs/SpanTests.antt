@@ -25,20 +25,6 @@ same-test a b c d up down = by (ltb a b) refl
 pub ends-below : (a n m : ℕ) → a ≤ n → n < m → a < m
 ends-below a n m h k = omega arith
 
--- a length n, and a test that is made where it is in range
-module _ (least most n : ℕ) (test : Bool) where
-  -- a length below its range is refused
-  pub too-short : n < least → (outside least most n || test) ≡ true
-  too-short h = rw (lies-below least most n h)
-
-  -- a length above its range is refused
-  pub too-long : most < n → (outside least most n || test) ≡ true
-  too-long h = rw (lies-above least most n h)
-
-  -- at a length in range, the test decides
-  pub length-fits : least ≤ n → n ≤ most → (outside least most n || test) ≡ test
-  length-fits low high = rw (lies-inside least most n low high)
-
 -- a number that is not below its range is outside it just where it is above
 pub above-decides : (low high n : ℕ) → low ≤ n → outside low high n ≡ ltb high n
 unfolding outside

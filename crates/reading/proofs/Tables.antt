@@ -6,7 +6,7 @@ use mathlib.Core.List.{List, [], _∷_, map, List·Memᴰ, List·Memᴰ·cases-c
 use mathlib.Core.Bool.{Bool, false}
 use native.Mathlib.Nat.{sub-zero}
 use native.Mathlib.Omega.{arith}
-use lib.ListN.{drop}
+use lib.ListN.{length, drop, getD}
 use lib.Seq.{drop-drop}
 use Rattle.words.specs.Lists.{any}
 use Rattle.words.specs.Words.{entries}
@@ -50,12 +50,12 @@ table-turn-at size read n at b i h =
     table-turn size read n (drop at b) i h
     ∙ ap (λ part. read part ∷ entriesFrom size read n (drop at b) (i + 1)) (drop-drop (size * i) at b)
 
--- to read each entry and then map is to read it mapped
-pub map-entries : {A B : Type 0} (size : ℕ) (read : List ℕ → A) (g : A → B) (n : ℕ) (b : List ℕ)
-    → map g (entries size read n b) ≡ entries size (λ b. g (read b)) n b
-unfolding entries
-map-entries size read g zero b = refl
-map-entries size read g (suc n) b = ap (λ rest. g (read b) ∷ rest) (map-entries size read g n (drop size b))
+-- where what is read passes no test wherever it stands, no entry of a table passes it
+pub no-entry : {A : Type 0} (size : ℕ) (read : List ℕ → A) (p : A → Bool) → ((b : List ℕ) → p (read b) ≡ false) → (n : ℕ) (b : List ℕ)
+    → any p (entries size read n b) ≡ false
+unfolding any entries
+no-entry size read p never zero b = refl
+no-entry size read p never (suc n) b = rw (never b) (no-entry size read p never n (drop size b))
 
 -- where no entry of a table passes a test, the one at i does not
 pub none-entry : {A : Type 0} (size : ℕ) (read : List ℕ → A) (p : A → Bool) (n : ℕ) (b : List ℕ) (i : ℕ)
@@ -70,6 +70,13 @@ none-entry size read p (suc n) b (suc i) e h =
     let later = not-second (p (read b)) (any p (entries size read n (drop size b))) e in
     ap (λ l. p (read l)) (sym (drop-drop (size * i) size b ∙ ap (λ k. drop k b) next))
     ∙ none-entry size read p n (drop size b) i later (omega arith)
+
+-- where no member of a list passes a test, the one at k does not
+pub none-place : {A : Type 0} (p : A → Bool) (d : A) (xs : List A) (k : ℕ) → any p xs ≡ false → k < length xs → p (getD xs k d) ≡ false
+unfolding any
+none-place p d [] k e h = absurd (omega arith)
+none-place p d (x ∷ xs) zero e h = not-first (p x) (any p xs) e
+none-place p d (x ∷ xs) (suc k) e h = none-place p d xs k (not-second (p x) (any p xs) e) (omega arith)
 
 -- where no member passes a test, and what fails it is mapped to what has a property, each mapped member has it
 pub each-mapped : {A B : Type 0} (p : A → Bool) (g : A → B) (P : B → Type 0) → ((x : A) → p x ≡ false → P (g x))

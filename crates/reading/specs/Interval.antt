@@ -1,34 +1,52 @@
--- The interval file: its layout, and the grounds that need the file alone (7, 9, 11, 13, 14).
+-- The interval file: its layout in both formats, and the grounds that need the file alone (7, 9, 11, 13, 18, 14).
 use Prim.Native.Nat.{ℕ, _+_, _-_, _*_}
-use mathlib.Core.List.{List, [], _∷_}
+use mathlib.Core.List.{List, [], _∷_, map}
 use mathlib.Core.Bool.{Bool, false, cond, not, _||_, _&&_}
-use lib.ListN.{length, drop}
+use lib.ListN.{length, drop, getD}
 use lib.IntN.{ℤ}
 use lib.Dec.{ltb, leb, eqb}
 use lib.Signed.{ltZ}
 use Rattle.words.specs.Lists.{any}
 use Rattle.words.specs.Words.{word32, signed, entries}
 use Rattle.words.specs.Grounds.{outside, beyond, liesFrom, overlap}
+use Rattle.reading.specs.Formats.{Sizes, notOfFormats}
 
--- bytes of the header of 10 words
-abbrev pub headerBytes : ℕ
-headerBytes = 40
+-- word 0 of a file whose rows name points
+abbrev pub curvesFormat : ℕ
+curvesFormat = 1
 
--- bytes of a row of 14 words
-abbrev pub rowBytes : ℕ
-rowBytes = 56
+-- word 0 of a file whose rows name schedules
+abbrev pub schedulesFormat : ℕ
+schedulesFormat = 2
+
+-- what holds in format 1, or else what holds in format 2
+abbrev pub byFormat : {A : Type 0} → ℕ → A → A → A
+byFormat format one two = cond (eqb format curvesFormat) one two
+
+-- bytes of the longest file
+abbrev pub mostFileBytes : ℕ
+mostFileBytes = 61440
+
+-- the sizes in which the formats differ: bytes of the header, of a row, and of the longest file
+pub record Layout : Type 0 where
+  pub headerBytes : ℕ
+  pub rowBytes : ℕ
+  pub mostBytes : ℕ
+
+-- by the format word: a header of 10 words and rows of 14, or of 12 and 15
+unfoldable pub layoutOf : ℕ → Layout
+layoutOf format =
+    byFormat format
+    (record { headerBytes = 40; rowBytes = 56; mostBytes = 49152 })
+    (record { headerBytes = 48; rowBytes = 60; mostBytes = mostFileBytes })
+
+-- bytes of a schedule of 3 words
+abbrev pub scheduleBytes : ℕ
+scheduleBytes = 12
 
 -- bytes of a point of 2 words
 abbrev pub pointBytes : ℕ
 pointBytes = 8
-
--- bytes of the longest file
-abbrev pub mostFileBytes : ℕ
-mostFileBytes = 49152
-
--- word 0 of a file
-abbrev pub fileFormat : ℕ
-fileFormat = 1
 
 -- intervals of five minutes in a day
 abbrev pub intervalsPerDay : ℕ
@@ -46,9 +64,29 @@ mostRows = 512
 abbrev pub mostPoints : ℕ
 mostPoints = 2048
 
--- the most points of a row
-abbrev pub mostRowPoints : ℕ
-mostRowPoints = 10
+-- the most schedules of a file
+abbrev pub mostSchedules : ℕ
+mostSchedules = 1024
+
+-- the most schedules of a row
+abbrev pub mostRowSchedules : ℕ
+mostRowSchedules = 4
+
+-- the most points of a schedule
+abbrev pub mostCurvePoints : ℕ
+mostCurvePoints = 10
+
+-- kind of a market schedule
+abbrev pub market : ℕ
+market = 1
+
+-- kind of a price-based PLS schedule
+abbrev pub priceBased : ℕ
+priceBased = 2
+
+-- kind of a cost schedule
+abbrev pub cost : ℕ
+cost = 3
 
 -- the highest kind word
 abbrev pub lastKind : ℕ
@@ -74,8 +112,10 @@ pub record Header : Type 0 where
   pub rowsOffset : ℕ
   pub pointCount : ℕ
   pub pointsOffset : ℕ
+  pub scheduleCount : ℕ
+  pub schedulesOffset : ℕ
 
--- the header that a file begins with
+-- the header that a file begins with; in format 1 the table of schedules is an empty one at the header's end
 unfoldable pub headerOf : List ℕ → Header
 headerOf f = record {
   format = word32 f 0;
@@ -88,7 +128,13 @@ headerOf f = record {
   rowsOffset = word32 f 7;
   pointCount = word32 f 8;
   pointsOffset = word32 f 9;
+  scheduleCount = byFormat (word32 f 0) 0 (word32 f 10);
+  schedulesOffset = byFormat (word32 f 0) 40 (word32 f 11);
 }
+
+-- the sizes of a file, by its format
+abbrev pub fileLayout : List ℕ → Layout
+fileLayout f = layoutOf (headerOf f .format)
 
 -- a point: price in cents per MWh, and kW
 pub record Point : Type 0 where
@@ -103,7 +149,8 @@ pointOf b = record { price = signed (word32 b 0); kw = word32 b 1 }
 unfoldable pub pointAt : List ℕ → ℕ → Point
 pointAt b j = pointOf (drop (pointBytes * j) b)
 
--- the 14 words of a row in document 01's order, words 2 to 9 in kW and the LMP in cents per MWh; the last two name its points
+-- the words of a row in document 01's order, words 2 to 9 in kW and the LMP in cents per MWh; the last three name its points,
+-- or in format 2 its schedules and which of these it was dispatched on
 pub record RowWords : Type 0 where
   pub id : ℕ
   pub kind : ℕ
@@ -119,10 +166,11 @@ pub record RowWords : Type 0 where
   pub lmp : ℤ
   pub first : ℕ
   pub count : ℕ
+  pub dispatched : ℕ
 
--- the words of the row at the front of b
-unfoldable pub rowWords : List ℕ → RowWords
-rowWords b = record {
+-- the words of the row at the front of b, by the format
+unfoldable pub rowWords : ℕ → List ℕ → RowWords
+rowWords format b = record {
   id = word32 b 0;
   kind = word32 b 1;
   committed = word32 b 2;
@@ -137,29 +185,71 @@ rowWords b = record {
   lmp = signed (word32 b 11);
   first = word32 b 12;
   count = word32 b 13;
+  dispatched = byFormat format 0 (word32 b 14);
 }
 
 -- the words of row i of a file
 unfoldable pub rowWordsAt : List ℕ → ℕ → RowWords
-rowWordsAt f i = rowWords (drop (headerOf f .rowsOffset + rowBytes * i) f)
+rowWordsAt f i = rowWords (headerOf f .format) (drop (headerOf f .rowsOffset + fileLayout f .rowBytes * i) f)
 
 -- the words of a file's rows, in its order
 unfoldable pub rowWordsOf : List ℕ → List RowWords
-rowWordsOf f = entries rowBytes rowWords (headerOf f .rowCount) (drop (headerOf f .rowsOffset) f)
+rowWordsOf f =
+    entries (fileLayout f .rowBytes) (rowWords (headerOf f .format)) (headerOf f .rowCount) (drop (headerOf f .rowsOffset) f)
 
--- a row's points: the stretch of the file that starts at its first point; word 12 is free if word 13 is 0
-unfoldable pub curvePart : List ℕ → RowWords → List ℕ
-curvePart f w = drop (headerOf f .pointsOffset + pointBytes * cond (eqb (w .count) 0) 0 (w .first)) f
+-- the words of a schedule: its kind, first point and number of points
+pub record ScheduleWords : Type 0 where
+  pub kind : ℕ
+  pub first : ℕ
+  pub count : ℕ
+
+-- the words of the schedule at the front of b
+unfoldable pub scheduleWords : List ℕ → ScheduleWords
+scheduleWords b = record { kind = word32 b 0; first = word32 b 1; count = word32 b 2 }
+
+-- so many schedules of a file's table, from one of them on
+unfoldable pub tableSchedules : List ℕ → ℕ → ℕ → List ScheduleWords
+tableSchedules f first count =
+    entries scheduleBytes scheduleWords count (drop (headerOf f .schedulesOffset + scheduleBytes * first) f)
+
+-- the points of a row of format 1, if it has any, are one market schedule
+unfoldable pub asSchedule : RowWords → List ScheduleWords
+asSchedule w = cond (eqb (w .count) 0) [] (record { kind = market; first = w .first; count = w .count } ∷ [])
+
+-- the schedules that a row of a file names
+unfoldable pub schedulesNamed : List ℕ → RowWords → List ScheduleWords
+schedulesNamed f w = byFormat (headerOf f .format) (asSchedule w) (tableSchedules f (w .first) (w .count))
+
+-- no schedule: one without points
+abbrev pub noSchedule : ScheduleWords
+noSchedule = record { kind = 0; first = 0; count = 0 }
+
+-- schedule k of those that a row names, counted from 0; none beyond them
+unfoldable pub scheduleAt : List ℕ → RowWords → ℕ → ScheduleWords
+scheduleAt f w k = getD (schedulesNamed f w) k noSchedule
+
+-- a schedule's points: the stretch of the file that starts at the first of them
+unfoldable pub curvePart : List ℕ → ScheduleWords → List ℕ
+curvePart f s = drop (headerOf f .pointsOffset + pointBytes * s .first) f
 
 -- the points that so many entries of a stretch hold
 unfoldable pub pointsIn : ℕ → List ℕ → List Point
 pointsIn n b = entries pointBytes pointOf n b
 
--- a row's curve
-unfoldable pub curveOf : List ℕ → RowWords → List Point
-curveOf f w = pointsIn (w .count) (curvePart f w)
+-- a schedule's curve
+unfoldable pub curveOf : List ℕ → ScheduleWords → List Point
+curveOf f s = pointsIn (s .count) (curvePart f s)
 
--- a row, as the rules speak of it: words 0 to 11, and its curve
+-- a schedule, as the rules speak of it: its kind and its curve
+pub record Schedule : Type 0 where
+  pub kind : ℕ
+  pub curve : List Point
+
+-- the schedule of a file that has these words
+unfoldable pub scheduleOf : List ℕ → ScheduleWords → Schedule
+scheduleOf f s = record { kind = s .kind; curve = curveOf f s }
+
+-- a row, as the rules speak of it: words 0 to 11, its schedules, and which of them it was dispatched on, counted from 0
 pub record Row : Type 0 where
   pub id : ℕ
   pub kind : ℕ
@@ -173,11 +263,12 @@ pub record Row : Type 0 where
   pub minimum : ℕ
   pub online : ℕ
   pub lmp : ℤ
-  pub curve : List Point
+  pub schedules : List Schedule
+  pub dispatched : ℕ
 
--- the row of these words and a curve
-unfoldable pub rowWith : RowWords → List Point → Row
-rowWith w curve = record {
+-- the row of these words and schedules
+unfoldable pub rowWith : RowWords → List Schedule → Row
+rowWith w schedules = record {
   id = w .id;
   kind = w .kind;
   committed = w .committed;
@@ -190,16 +281,17 @@ rowWith w curve = record {
   minimum = w .minimum;
   online = w .online;
   lmp = w .lmp;
-  curve = curve;
+  schedules = schedules;
+  dispatched = w .dispatched;
 }
 
 -- the row of a file that has these words
 unfoldable pub rowOf : List ℕ → RowWords → Row
-rowOf f w = rowWith w (curveOf f w)
+rowOf f w = rowWith w (map (scheduleOf f) (schedulesNamed f w))
 
 -- the rows of a file, in its order
 unfoldable pub rowsOf : List ℕ → List Row
-rowsOf f = entries rowBytes (λ b. rowOf f (rowWords b)) (headerOf f .rowCount) (drop (headerOf f .rowsOffset) f)
+rowsOf f = map (rowOf f) (rowWordsOf f)
 
 -- what a kind word says; a word above 5 is of no kind, and ground 13 refuses it
 pub data Kind : Type 0 where
@@ -222,23 +314,45 @@ kindOf k =
     (cond (eqb k 5) importer
     noKind)))))
 
+-- the least and the most bytes of a file of a format
+unfoldable pub fileSizes : ℕ → Sizes
+fileSizes format = record { least = layoutOf format .headerBytes; most = layoutOf format .mostBytes }
+
 -- ground 7: the file's length, or its format
 unfoldable pub notAFile : List ℕ → Bool
-notAFile f = outside headerBytes mostFileBytes (length f) || not (eqb (headerOf f .format) fileFormat)
+notAFile f = notOfFormats (fileSizes curvesFormat) (fileSizes schedulesFormat) f
 
 -- ground 9: the interval, region-wide or the imports
 unfoldable pub headerOutside : Header → Bool
 headerOutside h = leb (intervalsPerDay * h .days) (h .interval) || ltb 1 (h .regionWide) || beyond mostImports (h .imports)
 
--- ground 11: the numbers of rows and points, a table that leaves bytes 40 to the end, or two that share a byte
+-- a table of a file: its byte offset, and its bytes
+pub record Table : Type 0 where
+  pub at : ℕ
+  pub bytes : ℕ
+
+-- whether a table does not lie wholly from one byte to another
+unfoldable pub leaves : ℕ → ℕ → Table → Bool
+leaves from end t = not (liesFrom from end (t .at) (t .bytes))
+
+-- whether two tables, neither of them empty, share a byte
+unfoldable pub meet : Table → Table → Bool
+meet s t = overlap (s .at) (s .bytes) (t .at) (t .bytes)
+
+-- whether one of three tables leaves the bytes from one to another, or two of them share a byte
+unfoldable pub placesOutside : ℕ → ℕ → Table → Table → Table → Bool
+placesOutside from end rows points schedules =
+    any (leaves from end) (rows ∷ points ∷ schedules ∷ []) || meet rows points || meet rows schedules || meet points schedules
+
+-- ground 11: the numbers of rows, points and schedules, or the place of their tables from the header's end to the file's
 unfoldable pub tablesMisplaced : List ℕ → Bool
 tablesMisplaced f =
     let h = headerOf f in
-    let rows = rowBytes * h .rowCount in
-    let points = pointBytes * h .pointCount in
-    outside 1 mostRows (h .rowCount) || ltb mostPoints (h .pointCount)
-    || not (liesFrom headerBytes (length f) (h .rowsOffset) rows) || not (liesFrom headerBytes (length f) (h .pointsOffset) points)
-    || overlap (h .rowsOffset) rows (h .pointsOffset) points
+    outside 1 mostRows (h .rowCount) || ltb mostPoints (h .pointCount) || ltb mostSchedules (h .scheduleCount)
+    || placesOutside (fileLayout f .headerBytes) (length f)
+    (record { at = h .rowsOffset; bytes = fileLayout f .rowBytes * h .rowCount })
+    (record { at = h .pointsOffset; bytes = pointBytes * h .pointCount })
+    (record { at = h .schedulesOffset; bytes = scheduleBytes * h .scheduleCount })
 
 -- ground 13, of one row: its kind, words 2, 3, 6, 7, 8 and 9, words 4 and 5, minimum and maximum, online, LMP, and kind 4 or 5 with a commitment
 unfoldable pub rowOutside : RowWords → Bool
@@ -248,6 +362,21 @@ rowOutside w =
     || beyond mostKilowatts (w .metered) || beyond mostKilowatts (w .adjustment)
     || ltb (w .maximum) (w .minimum) || ltb 1 (w .online) || beyond mostPrice (w .lmp)
     || ((eqb (w .kind) 4 || eqb (w .kind) 5) && ltb 0 (w .committed))
+
+-- a row's schedules reach beyond the table; in format 1 it has none there, and word 12 is free where there are none
+unfoldable pub schedulesBeyond : Header → RowWords → Bool
+schedulesBeyond h w = byFormat (h .format) false (ltb 0 (w .count) && ltb (h .scheduleCount) (w .first + w .count))
+
+-- a schedule's kind is none of 1 market, 2 price-based PLS, 3 cost
+unfoldable pub kindOutside : ScheduleWords → Bool
+kindOutside s = outside market cost (s .kind)
+
+-- ground 18, of one row of a file: its schedules' place, number or kinds, or the one dispatched on, which is 0 or below their number
+unfoldable pub schedulesOutside : List ℕ → RowWords → Bool
+schedulesOutside f w =
+    let named = schedulesNamed f w in
+    schedulesBeyond (headerOf f) w || ltb mostRowSchedules (length named) || any kindOutside named
+    || (ltb 0 (w .dispatched) && leb (length named) (w .dispatched))
 
 -- a point's price or kW is out of range
 unfoldable pub pointOutside : Point → Bool
@@ -263,17 +392,25 @@ unfoldable pub falls : List Point → Bool
 falls [] = false
 falls (p ∷ ps) = fallsAfter p ps
 
--- a row has too many points, or points beyond a table of so many; word 12 is free if word 13 is 0
-unfoldable pub curveMisplaced : ℕ → RowWords → Bool
-curveMisplaced points w = ltb mostRowPoints (w .count) || (ltb 0 (w .count) && ltb points (w .first + w .count))
+-- a schedule has too few or too many points, or points beyond a table of so many
+unfoldable pub curveMisplaced : ℕ → ScheduleWords → Bool
+curveMisplaced points s = outside 1 mostCurvePoints (s .count) || ltb points (s .first + s .count)
 
--- ground 14, of one row of a file: the number or the place of its points, or the points themselves
+-- the number or the place of a schedule's points, or the points themselves
+unfoldable pub curveOutside : List ℕ → ScheduleWords → Bool
+curveOutside f s = curveMisplaced (headerOf f .pointCount) s || any pointOutside (curveOf f s) || falls (curveOf f s)
+
+-- ground 14, of one row of a file: the points of a schedule that it names
 unfoldable pub pointsOutside : List ℕ → RowWords → Bool
-pointsOutside f w = curveMisplaced (headerOf f .pointCount) w || any pointOutside (curveOf f w) || falls (curveOf f w)
+pointsOutside f w = any (curveOutside f) (schedulesNamed f w)
 
--- grounds 13 and 14, in checking order: all rows are tested for 13 before any for 14
+-- grounds 13, 18 and 14, in checking order: all rows are tested for one before any for the next
 unfoldable pub rowGrounds : List ℕ → List (Bool × ℕ)
-rowGrounds f = (any rowOutside (rowWordsOf f), 13) ∷ (any (pointsOutside f) (rowWordsOf f), 14) ∷ []
+rowGrounds f =
+    (any rowOutside (rowWordsOf f), 13)
+    ∷ (any (schedulesOutside f) (rowWordsOf f), 18)
+    ∷ (any (pointsOutside f) (rowWordsOf f), 14)
+    ∷ []
 
 -- point j is out of range, or falls from the one before it
 abbrev pub pointRefused : List ℕ → ℕ → Bool

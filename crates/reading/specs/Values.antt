@@ -8,24 +8,33 @@ use Rattle.words.specs.Lists.{any}
 use Rattle.reading.specs.Block.{blockHeaderBytes, mostIds, idBytes, Terms, BlockWords, blockWords}
 use Rattle.reading.specs.Formats.{Sizes}
 use Rattle.reading.specs.Interval.{
-  headerBytes,
-  rowBytes,
+  Layout,
+  layoutOf,
   pointBytes,
+  scheduleBytes,
   mostRows,
   mostPoints,
+  mostSchedules,
+  Table,
   Header,
   headerOf,
   Point,
   RowWords,
   rowWordsOf,
+  ScheduleWords,
   rowOutside,
+  schedulesOutside,
+  curveOutside,
   pointsOutside,
 }
 use Rattle.reading.specs.declared.block.Terms.{Terms as TermsValue}
 use Rattle.reading.specs.declared.block.Block.{Block as BlockValue}
+use Rattle.reading.specs.declared.spans.Span.{Span as SpanValue}
+use Rattle.reading.specs.declared.header.Layout.{Layout as LayoutValue}
 use Rattle.reading.specs.declared.header.Header.{Header as HeaderValue}
 use Rattle.reading.specs.declared.spans.Sizes.{Sizes as SizesValue}
 use Rattle.reading.specs.declared.rows.Row.{Row as RowValue}
+use Rattle.reading.specs.declared.rows.Schedule.{Schedule as ScheduleValue}
 use Rattle.reading.specs.declared.rows.Point.{Point as PointValue}
 
 -- the sizes that a value says
@@ -40,6 +49,14 @@ termsIn t = record { netCone = t .«net_cone»; days = t .days; year = t .year }
 unfoldable pub blockIn : BlockValue → BlockWords
 blockIn b = record { format = b .format; terms = termsIn (b .terms); idCount = b .ids; idsOffset = b .«ids_at» }
 
+-- the table that a value says
+unfoldable pub tableIn : SpanValue → Table
+tableIn s = record { at = s .at; bytes = s .bytes }
+
+-- the sizes that a value says
+unfoldable pub layoutIn : LayoutValue → Layout
+layoutIn l = record { headerBytes = l .«header_bytes»; rowBytes = l .«row_bytes»; mostBytes = l .«most_bytes» }
+
 -- the header that a value says
 unfoldable pub headerIn : HeaderValue → Header
 headerIn h = record {
@@ -53,6 +70,8 @@ headerIn h = record {
   rowsOffset = h .«rows_at»;
   pointCount = h .points;
   pointsOffset = h .«points_at»;
+  scheduleCount = h .schedules;
+  schedulesOffset = h .«schedules_at»;
 }
 
 -- the words of a row that a value says
@@ -72,7 +91,12 @@ rowIn r = record {
   lmp = r .lmp;
   first = r .first;
   count = r .count;
+  dispatched = r .dispatched;
 }
+
+-- the words of a schedule that a value says
+unfoldable pub scheduleIn : ScheduleValue → ScheduleWords
+scheduleIn s = record { kind = s .kind; first = s .first; count = s .points }
 
 -- the point that a value says
 unfoldable pub pointIn : PointValue → Point
@@ -91,7 +115,7 @@ pub record Listed (block : List ℕ) (b : BlockValue) : Type 0 where
 
 -- a header read from a file that ground 7 does not refuse
 pub record HeaderRead (file : List ℕ) (h : HeaderValue) : Type 0 where
-  pub long : headerBytes ≤ length file
+  pub long : layoutOf (h .format) .headerBytes ≤ length file
   pub says : headerIn h ≡ headerOf file
 
 -- and ground 11 does not refuse it: its tables lie within the file
@@ -99,15 +123,23 @@ pub record Tabled (file : List ℕ) (h : HeaderValue) : Type 0 where
   pub read : HeaderRead file h
   pub rows-few : h .rows ≤ mostRows
   pub points-few : h .points ≤ mostPoints
-  pub rows-lie : h .«rows_at» + rowBytes * h .rows ≤ length file
+  pub schedules-few : h .schedules ≤ mostSchedules
+  pub rows-lie : h .«rows_at» + layoutOf (h .format) .rowBytes * h .rows ≤ length file
   pub points-lie : h .«points_at» + pointBytes * h .points ≤ length file
+  pub schedules-lie : h .«schedules_at» + scheduleBytes * h .schedules ≤ length file
 
--- a row that grounds 13 and 14 do not refuse
+-- a row that grounds 13, 18 and 14 do not refuse
 pub record Sound (file : List ℕ) (w : RowWords) : Type 0 where
   pub in-range : rowOutside w ≡ false
+  pub schedules : schedulesOutside file w ≡ false
   pub points : pointsOutside file w ≡ false
 
--- a file whose rows grounds 13 and 14 do not refuse
+-- a schedule whose points ground 14 does not refuse
+pub record SoundCurve (file : List ℕ) (s : ScheduleWords) : Type 0 where
+  pub points : curveOutside file s ≡ false
+
+-- a file whose rows grounds 13, 18 and 14 do not refuse
 pub record Scanned (file : List ℕ) : Type 0 where
   pub in-range : any rowOutside (rowWordsOf file) ≡ false
+  pub schedules : any (schedulesOutside file) (rowWordsOf file) ≡ false
   pub points : any (pointsOutside file) (rowWordsOf file) ≡ false

@@ -1,7 +1,8 @@
-// The interval file's header and the place of its tables: its values, and grounds 7, 9 and 11.
+// The interval file's header and the place of its tables, in both formats: its values, and grounds 7, 9 and 11.
 
+use crate::spans::Sizes;
 use crate::spans::Span;
-use crate::spans::not_of_format;
+use crate::spans::not_of_formats;
 use words::number32;
 use words::signed;
 ghost use mathlib.Core.Path.{_≡_};
@@ -9,14 +10,23 @@ ghost use Prim.Native.Nat.{_≤_, _<_, _^_};
 ghost use lib.ListN.{length};
 ghost use Rattle.words.specs.Grounds.{beyond as beyondOf};
 ghost use Rattle.reading.specs.Block.{leapYear};
-ghost use Rattle.reading.specs.Interval.{headerBytes, headerOf, notAFile, headerOutside, tablesMisplaced};
-ghost use Rattle.reading.specs.Values.{headerIn, HeaderRead};
+ghost use Rattle.reading.specs.Interval.{
+  layoutOf,
+  fileLayout,
+  headerOf,
+  notAFile,
+  headerOutside,
+  placesOutside,
+  tablesMisplaced,
+};
+ghost use Rattle.reading.specs.Values.{tableIn, layoutIn, headerIn, HeaderRead};
 
-const HEADER_BYTES: usize = 40;
+// Format 1, whose rows name points, and format 2, whose rows name schedules.
+pub const CURVES: u64 = 1;
 
-pub const MOST_FILE_BYTES: usize = 49152;
+const SCHEDULES: u64 = 2;
 
-const FILE_FORMAT: u64 = 1;
+pub const MOST_FILE_BYTES: usize = 61440;
 
 pub const INTERVALS_PER_DAY: u64 = 288;
 
@@ -26,9 +36,36 @@ pub const MOST_ROWS: usize = 512;
 
 const MOST_POINTS: usize = 2048;
 
-pub const ROW_BYTES: usize = 56;
+const MOST_SCHEDULES: usize = 1024;
 
 pub const POINT_BYTES: usize = 8;
+
+pub const SCHEDULE_BYTES: usize = 12;
+
+// The sizes in which the formats differ.
+pub struct Layout {
+    pub header_bytes: usize,
+    pub row_bytes: usize,
+    pub most_bytes: usize,
+}
+
+// The sizes of a format.
+pub fn layout_of(format: u64) -> Layout
+    ensures { λ r. ⌜ layoutIn r ≡ layoutOf format ⌝ }
+{
+    match format {
+        CURVES => Layout {
+            header_bytes: 40,
+            row_bytes: 56,
+            most_bytes: 49152,
+        },
+        _ => Layout {
+            header_bytes: 48,
+            row_bytes: 60,
+            most_bytes: MOST_FILE_BYTES,
+        },
+    }
+}
 
 // The header: its values, and of each table the number of entries and the byte offset.
 pub struct Header {
@@ -42,15 +79,42 @@ pub struct Header {
     pub rows_at: usize,
     pub points: usize,
     pub points_at: usize,
+    pub schedules: usize,
+    pub schedules_at: usize,
+}
+
+// The number of schedules; none in format 1.
+fn schedule_count(file: &[u8], format: u64) -> usize
+    requires { ⌜ layoutOf format .headerBytes ≤ length (now file) ⌝ }
+    requires { ⌜ format ≡ headerOf (now file) .format ⌝ }
+    ensures { λ r. ⌜ r ≡ headerOf (now (file .entry)) .scheduleCount ⌝ }
+{
+    match format {
+        CURVES => 0,
+        _ => number32(file, 40) as usize,
+    }
+}
+
+// The offset of the schedules; in format 1 that of an empty table.
+fn schedule_offset(file: &[u8], format: u64) -> usize
+    requires { ⌜ layoutOf format .headerBytes ≤ length (now file) ⌝ }
+    requires { ⌜ format ≡ headerOf (now file) .format ⌝ }
+    ensures { λ r. ⌜ r ≡ headerOf (now (file .entry)) .schedulesOffset ⌝ }
+{
+    match format {
+        CURVES => 40,
+        _ => number32(file, 44) as usize,
+    }
 }
 
 // The header of a file that ground 7 does not refuse.
 pub fn header_of(file: &[u8]) -> Header
-    requires { ⌜ headerBytes ≤ length (now file) ⌝ }
+    requires { ⌜ fileLayout (now file) .headerBytes ≤ length (now file) ⌝ }
     ensures { λ r. ⌜ headerIn r ≡ headerOf (now (file .entry)) ⌝ }
 {
+    let format = number32(file, 0);
     Header {
-        format: number32(file, 0),
+        format,
         interval: number32(file, 4),
         net_cone: number32(file, 8),
         days: number32(file, 12),
@@ -60,6 +124,8 @@ pub fn header_of(file: &[u8]) -> Header
         rows_at: number32(file, 28) as usize,
         points: number32(file, 32) as usize,
         points_at: number32(file, 36) as usize,
+        schedules: schedule_count(file, format),
+        schedules_at: schedule_offset(file, format),
     }
 }
 
@@ -67,7 +133,17 @@ pub fn header_of(file: &[u8]) -> Header
 pub fn not_a_file(file: &[u8]) -> bool
     ensures { λ r. ⌜ r ≡ notAFile (now (file .entry)) ⌝ }
 {
-    not_of_format(file, HEADER_BYTES, MOST_FILE_BYTES, FILE_FORMAT)
+    let curves = layout_of(CURVES);
+    let schedules = layout_of(SCHEDULES);
+    let one = Sizes {
+        least: curves.header_bytes,
+        most: curves.most_bytes,
+    };
+    let two = Sizes {
+        least: schedules.header_bytes,
+        most: schedules.most_bytes,
+    };
+    not_of_formats(file, one, two)
 }
 
 // Whether a signed number lies outside -most to most.
@@ -96,6 +172,28 @@ pub fn header_outside(h: Header) -> bool
     beyond(h.imports, MOST_IMPORTS)
 }
 
+// Whether one of three tables leaves the bytes from one to another, or two of them share a byte.
+fn places_outside(rows: Span, points: Span, schedules: Span, from: usize, end: usize) -> bool
+    ensures { λ r. ⌜ r ≡ placesOutside from end (tableIn rows) (tableIn points) (tableIn schedules) ⌝ }
+{
+    if rows.leaves(from, end) {
+        return true;
+    }
+    if points.leaves(from, end) {
+        return true;
+    }
+    if schedules.leaves(from, end) {
+        return true;
+    }
+    if rows.overlaps(points) {
+        return true;
+    }
+    if rows.overlaps(schedules) {
+        return true;
+    }
+    points.overlaps(schedules)
+}
+
 // Ground 11. The numbers are tested first, so that the tables' sizes are small.
 pub fn tables_misplaced(file: &[u8], h: Header) -> bool
     requires { ⌜ HeaderRead (now file) h ⌝ }
@@ -110,19 +208,21 @@ pub fn tables_misplaced(file: &[u8], h: Header) -> bool
     if MOST_POINTS < h.points {
         return true;
     }
-    let rows = Span {
-        at: h.rows_at,
-        bytes: ROW_BYTES * h.rows,
-    };
-    if rows.leaves(HEADER_BYTES, file.len()) {
+    if MOST_SCHEDULES < h.schedules {
         return true;
     }
+    let sizes = layout_of(h.format);
+    let rows = Span {
+        at: h.rows_at,
+        bytes: sizes.row_bytes * h.rows,
+    };
     let points = Span {
         at: h.points_at,
         bytes: POINT_BYTES * h.points,
     };
-    if points.leaves(HEADER_BYTES, file.len()) {
-        return true;
-    }
-    rows.overlaps(points)
+    let schedules = Span {
+        at: h.schedules_at,
+        bytes: SCHEDULE_BYTES * h.schedules,
+    };
+    places_outside(rows, points, schedules, sizes.header_bytes, file.len())
 }

@@ -1,17 +1,35 @@
-// Rows and points of an interval file, read as values.
+// Rows, schedules and points of an interval file, read as values.
 
+use crate::header::CURVES;
 use crate::header::Header;
 use crate::header::POINT_BYTES;
-use crate::header::ROW_BYTES;
+use crate::header::SCHEDULE_BYTES;
+use crate::header::layout_of;
 use words::number32;
 use words::signed;
 ghost use mathlib.Core.Path.{_≡_};
 ghost use mathlib.Core.Bool.{false};
-ghost use Prim.Native.Nat.{_+_, _*_, _≤_, _<_, _^_};
-ghost use lib.ListN.{length};
+ghost use mathlib.Core.List.{List};
+ghost use Prim.Native.Nat.{ℕ, _+_, _*_, _≤_, _<_, _^_};
+ghost use lib.ListN.{length, drop};
 ghost use lib.Signed.{mag};
-ghost use Rattle.reading.specs.Interval.{rowBytes, pointBytes, rowWords, rowWordsAt, pointAt, curvePart, curveMisplaced};
-ghost use Rattle.reading.specs.Values.{rowIn, pointIn, Tabled};
+ghost use Rattle.reading.specs.Interval.{
+  layoutOf,
+  scheduleBytes,
+  pointBytes,
+  headerOf,
+  rowWords,
+  rowWordsAt,
+  scheduleWords,
+  schedulesNamed,
+  scheduleAt,
+  schedulesBeyond,
+  schedulesOutside,
+  curvePart,
+  pointAt,
+  curveMisplaced,
+};
+ghost use Rattle.reading.specs.Values.{headerIn, rowIn, scheduleIn, pointIn, Tabled};
 
 // Kinds of rows: generation or storage, demand resource, energy efficiency, price responsive demand (PRD), energy-only, importer.
 pub const GENERATION: u64 = 0;
@@ -26,7 +44,14 @@ pub const ENERGY_ONLY: u64 = 4;
 
 pub const IMPORTER: u64 = 5;
 
-// A row's words; the last two name its points, the first of them and their number.
+// Kinds of schedules: market, price-based PLS, cost.
+pub const MARKET: u64 = 1;
+
+pub const PRICE_BASED: u64 = 2;
+
+pub const COST: u64 = 3;
+
+// A row's words. The last three name its points in format 1, and in format 2 its schedules and which of them it was dispatched on.
 pub struct Row {
     pub id: u64,
     pub kind: u64,
@@ -42,6 +67,14 @@ pub struct Row {
     pub lmp: i64,
     pub first: usize,
     pub count: usize,
+    pub dispatched: usize,
+}
+
+// A schedule's kind, its first point and the number of its points.
+pub struct Schedule {
+    pub kind: u64,
+    pub first: usize,
+    pub points: usize,
 }
 
 // A price in cents per MWh, and kW.
@@ -50,10 +83,21 @@ pub struct Point {
     pub kw: u64,
 }
 
+// Which schedule a row was dispatched on, counted from its first; in format 1 there is no other.
+fn dispatched(row: &[u8], format: u64) -> usize
+    requires { ⌜ layoutOf format .rowBytes ≤ length (now row) ⌝ }
+    ensures { λ r. ⌜ r ≡ rowWords format (now (row .entry)) .dispatched ⌝ }
+{
+    match format {
+        CURVES => 0,
+        _ => number32(row, 56) as usize,
+    }
+}
+
 // The row at the front of a part of a file.
-fn row_of(row: &[u8]) -> Row
-    requires { ⌜ rowBytes ≤ length (now row) ⌝ }
-    ensures { λ r. ⌜ rowIn r ≡ rowWords (now (row .entry)) ⌝ }
+fn row_of(row: &[u8], format: u64) -> Row
+    requires { ⌜ layoutOf format .rowBytes ≤ length (now row) ⌝ }
+    ensures { λ r. ⌜ rowIn r ≡ rowWords format (now (row .entry)) ⌝ }
 {
     Row {
         id: number32(row, 0),
@@ -70,6 +114,7 @@ fn row_of(row: &[u8]) -> Row
         lmp: signed(number32(row, 44)),
         first: number32(row, 48) as usize,
         count: number32(row, 52) as usize,
+        dispatched: dispatched(row, format),
     }
 }
 
@@ -79,22 +124,84 @@ pub fn row_at(file: &[u8], h: Header, i: usize) -> Row
     requires { ⌜ i < h .rows ⌝ }
     ensures { λ r. ⌜ rowIn r ≡ rowWordsAt (now (file .entry)) i ⌝ }
 {
-    let at = h.rows_at + ROW_BYTES * i;
-    row_of(&file[at..])
+    let format = h.format;
+    let sizes = layout_of(format);
+    let at = h.rows_at + sizes.row_bytes * i;
+    row_of(&file[at..], format)
 }
 
-// The part of the file that starts at a row's first point. Without points the word that names it is free.
-pub fn curve(file: &[u8], h: Header, row: Row) -> &[u8]
-    requires { ⌜ Tabled (now file) h ⌝ }
-    requires { ⌜ curveMisplaced (h .points) (rowIn row) ≡ false ⌝ }
-    ensures { λ r. ⌜ now r ≡ curvePart (now (file .entry)) (rowIn row) ⌝ }
-    ensures { λ r. ⌜ pointBytes * row .count ≤ length (now r) ⌝ }
+// How many schedules a row has. In format 1 its points are its one schedule.
+pub fn schedules(h: Header, row: Row) -> usize
+    ensures { λ r. ⌜ ((f : List ℕ) → headerOf f .format ≡ h .format → r ≡ length (schedulesNamed f (rowIn row))) ⌝ }
 {
-    let table = h.points_at;
-    if row.count == 0 {
-        return &file[table..];
+    let format = h.format;
+    match format {
+        CURVES => {
+            if row.count == 0 {
+                return 0;
+            }
+            1
+        }
+        _ => row.count,
     }
-    let at = table + POINT_BYTES * row.first;
+}
+
+// Schedule n of the file's table.
+pub fn table_schedule(file: &[u8], h: Header, n: usize) -> Schedule
+    requires { ⌜ Tabled (now file) h ⌝ }
+    requires { ⌜ n < h .schedules ⌝ }
+    ensures { λ r. ⌜ scheduleIn r ≡ scheduleWords (drop (h .«schedules_at» + scheduleBytes * n) (now (file .entry))) ⌝ }
+{
+    let at = h.schedules_at + SCHEDULE_BYTES * n;
+    Schedule {
+        kind: number32(file, at),
+        first: number32(file, at + 4) as usize,
+        points: number32(file, at + 8) as usize,
+    }
+}
+
+// Schedule k of a row. The one of format 1 is a market schedule.
+pub fn schedule_at(file: &[u8], h: Header, row: Row, k: usize) -> Schedule
+    requires { ⌜ Tabled (now file) h ⌝ }
+    requires { ⌜ schedulesBeyond (headerIn h) (rowIn row) ≡ false ⌝ }
+    requires { ⌜ k < length (schedulesNamed (now file) (rowIn row)) ⌝ }
+    ensures { λ r. ⌜ scheduleIn r ≡ scheduleAt (now (file .entry)) (rowIn row) k ⌝ }
+{
+    let format = h.format;
+    match format {
+        CURVES => Schedule {
+            kind: MARKET,
+            first: row.first,
+            points: row.count,
+        },
+        _ => table_schedule(file, h, row.first + k),
+    }
+}
+
+// The schedule that a row was dispatched on; one without points if it has none.
+pub fn dispatched_on(file: &[u8], h: Header, row: Row) -> Schedule
+    requires { ⌜ Tabled (now file) h ⌝ }
+    requires { ⌜ schedulesOutside (now file) (rowIn row) ≡ false ⌝ }
+    ensures { λ r. ⌜ scheduleIn r ≡ scheduleAt (now (file .entry)) (rowIn row) (row .dispatched) ⌝ }
+{
+    if row.count == 0 {
+        return Schedule {
+            kind: 0,
+            first: 0,
+            points: 0,
+        };
+    }
+    schedule_at(file, h, row, row.dispatched)
+}
+
+// The part of the file that starts at a schedule's first point.
+pub fn curve(file: &[u8], h: Header, s: Schedule) -> &[u8]
+    requires { ⌜ Tabled (now file) h ⌝ }
+    requires { ⌜ curveMisplaced (h .points) (scheduleIn s) ≡ false ⌝ }
+    ensures { λ r. ⌜ now r ≡ curvePart (now (file .entry)) (scheduleIn s) ⌝ }
+    ensures { λ r. ⌜ pointBytes * s .points ≤ length (now r) ⌝ }
+{
+    let at = h.points_at + POINT_BYTES * s.first;
     &file[at..]
 }
 

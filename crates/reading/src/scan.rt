@@ -1,14 +1,21 @@
-// Grounds 13 and 14: the rows and their points.
+// Grounds 13, 18 and 14: the rows, their schedules and the points of these.
 
+use crate::header::CURVES;
 use crate::header::Header;
 use crate::header::beyond;
+use crate::rows::COST;
 use crate::rows::ENERGY_ONLY;
 use crate::rows::IMPORTER;
+use crate::rows::MARKET;
 use crate::rows::Point;
 use crate::rows::Row;
+use crate::rows::Schedule;
 use crate::rows::curve;
 use crate::rows::point_at;
 use crate::rows::row_at;
+use crate::rows::schedule_at;
+use crate::rows::schedules;
+use crate::rows::table_schedule;
 ghost use mathlib.Core.Path.{_≡_};
 ghost use mathlib.Core.List.{_∷_, []};
 ghost use Prim.Native.Nat.{_+_, _*_, _≤_};
@@ -16,14 +23,30 @@ ghost use lib.ListN.{length};
 ghost use lib.Dec.{ltb};
 ghost use Rattle.words.specs.Lists.{any};
 ghost use Rattle.words.specs.Grounds.{answered};
-ghost use Rattle.reading.specs.Interval.{mostKilowatts, pointBytes, rowOutside, pointOutside, falls as fallsOf, curveMisplaced, pointRefused, rowGrounds};
-ghost use Rattle.reading.specs.Values.{rowIn, pointIn, Tabled};
+ghost use Rattle.reading.specs.Interval.{
+  curvesFormat,
+  byFormat,
+  mostKilowatts,
+  pointBytes,
+  tableSchedules,
+  rowOutside,
+  kindOutside,
+  schedulesOutside,
+  pointOutside,
+  falls as fallsOf,
+  curveMisplaced,
+  pointRefused,
+  rowGrounds,
+};
+ghost use Rattle.reading.specs.Values.{rowIn, scheduleIn, pointIn, Tabled};
 
 pub const MOST_KILOWATTS: u64 = 4000000;
 
 const MOST_PRICE: u64 = 1000000;
 
-const MOST_ROW_POINTS: usize = 10;
+const MOST_ROW_SCHEDULES: usize = 4;
+
+const MOST_CURVE_POINTS: usize = 10;
 
 // Whether a word of a row that counts kW, and is not signed, is too high.
 fn kilowatts_outside(row: Row) -> bool
@@ -79,21 +102,79 @@ pub fn row_outside(row: Row) -> bool
     0 < row.committed
 }
 
-// Whether a row's points are too many, or reach beyond a table of so many.
-fn curve_misplaced(points: usize, row: Row) -> bool
-    ensures { λ r. ⌜ r ≡ curveMisplaced points (rowIn row) ⌝ }
+// Whether so many entries of a table, from one of them on, reach beyond it.
+fn reach_beyond(table: usize, first: usize, count: usize) -> bool
+    ensures { λ r. ⌜ r ≡ ltb table (first + count) ⌝ }
 {
-    if MOST_ROW_POINTS < row.count {
+    if table < count {
         return true;
     }
-    // Without points the word that names the first is free.
+    table - count < first
+}
+
+// Whether one of so many schedules of the file's table, from one of them on, is of no kind.
+fn kinds_outside(file: &[u8], h: Header, first: usize, count: usize) -> bool
+    requires { ⌜ Tabled (now file) h ⌝ }
+    requires { ⌜ first + count ≤ h .schedules ⌝ }
+    ensures { λ r. ⌜ r ≡ any kindOutside (tableSchedules (now (file .entry)) first count) ⌝ }
+{
+    let mut k = 0;
+    while k < count {
+        let s = table_schedule(file, h, first + k);
+        if s.kind < MARKET {
+            return true;
+        }
+        if COST < s.kind {
+            return true;
+        }
+        k += 1;
+    }
+    false
+}
+
+// Ground 18, of one row of a file whose rows name schedules.
+fn schedules_outside(file: &[u8], h: Header, row: Row) -> bool
+    requires { ⌜ Tabled (now file) h ⌝ }
+    requires { ⌜ (h .format ≡ curvesFormat → ⊥) ⌝ }
+    ensures { λ r. ⌜ r ≡ schedulesOutside (now (file .entry)) (rowIn row) ⌝ }
+{
+    // Without schedules the word that names the first is free.
     if row.count == 0 {
-        return false;
+        return 0 < row.dispatched;
     }
-    if points < row.count {
+    if MOST_ROW_SCHEDULES < row.count {
         return true;
     }
-    points - row.count < row.first
+    if row.count <= row.dispatched {
+        return true;
+    }
+    if reach_beyond(h.schedules, row.first, row.count) {
+        return true;
+    }
+    kinds_outside(file, h, row.first, row.count)
+}
+
+// How many rows ground 18 looks at: in format 1 it applies to none.
+fn rows_naming(h: Header) -> usize
+    ensures { λ r. ⌜ r ≡ byFormat (h .format) 0 (h .rows) ⌝ }
+{
+    if h.format == CURVES {
+        return 0;
+    }
+    h.rows
+}
+
+// Whether a schedule's points are too few, too many, or reach beyond a table of so many.
+fn curve_misplaced(points: usize, s: Schedule) -> bool
+    ensures { λ r. ⌜ r ≡ curveMisplaced points (scheduleIn s) ⌝ }
+{
+    if s.points < 1 {
+        return true;
+    }
+    if MOST_CURVE_POINTS < s.points {
+        return true;
+    }
+    reach_beyond(points, s.first, s.points)
 }
 
 // Whether a point is out of range.
@@ -131,11 +212,12 @@ fn point_refused(curve: &[u8], j: usize) -> bool
     falls(point_at(curve, j - 1), p)
 }
 
-// Grounds 13 and 14, of tables that lie within the file: all rows are tested for 13 before any for 14.
+// Grounds 13, 18 and 14, of tables that lie within the file: all rows are tested for one before any for the next.
 pub fn scan(file: &[u8], h: Header) -> u32
     requires { ⌜ Tabled (now file) h ⌝ }
     ensures { λ r. ⌜ r ≡ answered (rowGrounds (now (file .entry))) ⌝ }
 {
+    let naming = rows_naming(h);
     let ground = 'scan: loop {
         let mut i = 0;
         while i < h.rows {
@@ -144,21 +226,34 @@ pub fn scan(file: &[u8], h: Header) -> u32
             }
             i += 1;
         }
-        let mut k = 0;
-        while k < h.rows {
-            let row = row_at(file, h, k);
-            if curve_misplaced(h.points, row) {
-                break 'scan 14;
+        let mut m = 0;
+        while m < naming {
+            if schedules_outside(file, h, row_at(file, h, m)) {
+                break 'scan 18;
             }
-            let points = curve(file, h, row);
-            let mut j = 0;
-            while j < row.count {
-                if point_refused(points, j) {
+            m += 1;
+        }
+        let mut n = 0;
+        while n < h.rows {
+            let row = row_at(file, h, n);
+            let count = schedules(h, row);
+            let mut k = 0;
+            while k < count {
+                let s = schedule_at(file, h, row, k);
+                if curve_misplaced(h.points, s) {
                     break 'scan 14;
                 }
-                j += 1;
+                let points = curve(file, h, s);
+                let mut j = 0;
+                while j < s.points {
+                    if point_refused(points, j) {
+                        break 'scan 14;
+                    }
+                    j += 1;
+                }
+                k += 1;
             }
-            k += 1;
+            n += 1;
         }
         break 'scan 0;
     };

@@ -2,12 +2,10 @@
 
 use words::number32;
 ghost use mathlib.Core.Path.{_≡_};
-ghost use mathlib.Core.Bool.{not, _||_};
+ghost use mathlib.Core.Bool.{not};
 ghost use Prim.Native.Nat.{_+_, _≤_, _<_, _^_};
 ghost use lib.ListN.{length};
-ghost use lib.Dec.{eqb};
-ghost use Rattle.words.specs.Words.{word32};
-ghost use Rattle.words.specs.Grounds.{outside, liesFrom, overlap};
+ghost use Rattle.words.specs.Grounds.{liesFrom, overlap};
 ghost use Rattle.reading.specs.Formats.{formatBytes, sizesOutside, notOfFormats};
 ghost use Rattle.reading.specs.Values.{sizesIn};
 
@@ -51,20 +49,6 @@ impl Span {
         }
         other.at < self.at + self.bytes
     }
-}
-
-// Whether a buffer is under `least` or over `most` bytes, or its word 0 is not the format.
-pub fn not_of_format(b: &[u8], least: usize, most: usize, format: u64) -> bool
-    requires { ⌜ formatBytes ≤ least ⌝ }
-    ensures { λ r. ⌜ r ≡ (outside least most (length (now (b .entry))) || not (eqb (word32 (now (b .entry)) 0) format)) ⌝ }
-{
-    if b.len() < least {
-        return true;
-    }
-    if most < b.len() {
-        return true;
-    }
-    number32(b, 0) != format
 }
 
 // The least and the most bytes of a format.

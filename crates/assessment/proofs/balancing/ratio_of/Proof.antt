@@ -1,7 +1,7 @@
 -- `assessment::balancing::ratio_of` meets its contract. What is left to add is the shares of the rows from i on.
 use Prim.Native.Nat.{_-_}
 use borrow.Author.Needs.{needs}
-use Rattle.reading.specs.Interval.{rowOf, curveOf}
+use Rattle.reading.specs.Interval.{rowWith, rowOf}
 use Rattle.reading.specs.Values.{rowIn, Sound}
 use Rattle.reading.proofs.SoundRows.{sound-row}
 use Rattle.assessment.specs.Values.{ratioIn}
@@ -51,7 +51,7 @@ loop-less : tie.Need-loop-less Inv-loop μ-loop
 loop-less c = search needs
 
 loop-again : tie.Need-loop-again Inv-loop μ-loop
-unfolding rowOf
+unfolding rowOf rowWith
 loop-again c =
     let less = c .before in
     let up = less .before in
@@ -61,9 +61,9 @@ loop-again c =
     let s = l .before .before .before in
     let above = more .numerator-share .ensures in
     let below = less .denominator-share .ensures in
-    let curve = curveOf (s .args .file .now) (rowIn (d .row-at .result)) in
+    let schedules = rowOf (s .args .file .now) (rowIn (d .row-at .result)) .schedules in
     let shares = summed-turn (s .pre .0 .read) (l .loop .inv) (d .before .if1 .taken) (d .row-at .ensures) in
-    rw (up .plus .ensures, c .plus2 .ensures) (shares _ _ (above .0) (above .1) (below .0 curve) (below .1))
+    rw (up .plus .ensures, c .plus2 .ensures) (shares _ _ (above .0) (above .1) (below .0 schedules) (below .1))
 
 returns : tie.Need-returns Inv-loop μ-loop
 unfolding ratioIn

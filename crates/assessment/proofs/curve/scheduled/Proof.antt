@@ -9,11 +9,10 @@ use lib.Signed.{ltZ}
 use mir.Syntax.{w64}
 use mir.Val.{toZ, ofZ}
 use Rattle.words.proofs.Ints.{plain}
-use Rattle.reading.specs.Interval.{Point, Row, rowWith, pointAt}
+use Rattle.reading.specs.Interval.{Schedule, Row, rowWith, pointAt}
 use Rattle.reading.specs.Values.{rowIn}
 use Rattle.assessment.proofs.CurveLaws.{
   price-read,
-  scheduled-none,
   scheduled-below,
   scheduled-above,
   scheduled-along,
@@ -21,21 +20,17 @@ use Rattle.assessment.proofs.CurveLaws.{
 use Rattle.assessment.proofs.curve.scheduled.Statement.{statement}
 use Rattle.assessment.proofs.curve.scheduled.Tie as tie
 
--- the row, with any curve
-abbrev row : tie.Start → List Point → Row
-row c curve = rowWith (rowIn (c .args .row)) curve
-
--- with no return for no points, there are some
-some : (c : tie.Else1) → 0 < c .before .before .args .n
-some c = omega (arith, c .if1 .left)
+-- the row, with any schedules
+abbrev row : tie.Start → List Schedule → Row
+row c schedules = rowWith (rowIn (c .args .row)) schedules
 
 -- the LMP, read back from its bits
-lmp-is : (c : tie.After-struct-told) → let a = c .before .before .before .args in
+lmp-is : (c : tie.After-struct-told) → let a = c .before .before .args in
     toZ w64 (ofZ w64 (a .row .lmp)) ≡ a .row .lmp
-lmp-is c = plain (c .before .before .before .args .row .lmp) (omega arith)
+lmp-is c = plain (c .before .before .args .row .lmp) (omega arith)
 
 -- what the test of the first price says
-below : (c : tie.After-point-at) {t : Bool} → let a = c .before .before .before .before .before .args in
+below : (c : tie.After-point-at) {t : Bool} → let a = c .before .before .before .before .args in
     ltZ (toZ w64 (ofZ w64 (a .row .lmp))) (toZ w64 (ofZ w64 (c .point-at .result .price))) ≡ t
     → ltZ (a .row .lmp) (pointAt (a .points .now) 0 .price) ≡ t
 below c test =
@@ -44,16 +39,12 @@ below c test =
 
 -- what the test of the last price says
 above : (c : tie.After-point-at2) {t : Bool} → let p = c .before .before .before .before in
-    let a = p .before .before .before .before .before .args in
+    let a = p .before .before .before .before .args in
     ltZ (toZ w64 (ofZ w64 (c .point-at2 .result .price))) (toZ w64 (ofZ w64 (a .row .lmp))) ≡ t
     → ltZ (pointAt (a .points .now) (a .n - 1) .price) (a .row .lmp) ≡ t
 above c test =
     let last = price-read (c .point-at2 .result) (c .point-at2 .ensures .0) (c .point-at2 .ensures .1 .0) in
     sym (ap₂ ltZ last (lmp-is (c .before .before .before .before .before .before))) ∙ test
-
-returns : tie.Need-returns
-unfolding rowWith rowIn
-returns c curve = scheduled-none _ _ (row (c .before .before) curve) (c .if1 .taken)
 
 minimum-online-requires : tie.Need-minimum-online-requires
 minimum-online-requires c κs = search needs
@@ -61,14 +52,14 @@ minimum-online-requires c κs = search needs
 point-at-requires : tie.Need-point-at-requires
 point-at-requires c κs = search needs
 
-returns-2 : tie.Need-returns-2
+returns : tie.Need-returns
 unfolding rowWith rowIn
-returns-2 c curve =
+returns c schedules =
     let p = c .before .before .before in
     let m = p .before in
-    let e = m .before .before in
-    let r = row (e .before .before) curve in
-    m .minimum-online .ensures curve ∙ scheduled-below _ _ r (some e) (below p (c .if2 .taken))
+    let s = m .before .before .before in
+    let r = row s schedules in
+    m .minimum-online .ensures schedules ∙ scheduled-below _ _ r (s .pre .0) (below p (c .if1 .taken))
 
 sub-point-at : tie.Need-sub-point-at
 sub-point-at c = search needs
@@ -76,14 +67,14 @@ sub-point-at c = search needs
 point-at-requires-2 : tie.Need-point-at-requires-2
 point-at-requires-2 c κs = search needs
 
-returns-3 : tie.Need-returns-3
+returns-2 : tie.Need-returns-2
 unfolding rowWith rowIn
-returns-3 c curve =
+returns-2 c schedules =
     let q = c .before .before .before in
     let p = q .before .before .before .before in
-    let e = p .before .before .before in
-    let r = row (e .before .before) curve in
-    scheduled-above _ _ r (some e) (below p (q .before .if2 .left)) (above q (c .if3 .taken))
+    let s = p .before .before .before .before in
+    let r = row s schedules in
+    scheduled-above _ _ r (s .pre .0) (below p (q .before .if1 .left)) (above q (c .if2 .taken))
 
 on-curve-requires : tie.Need-on-curve-requires
 on-curve-requires c κs = search needs
@@ -94,33 +85,32 @@ greater-requires c κs = search needs
 lesser-requires : tie.Need-lesser-requires
 lesser-requires c κs = search needs
 
-returns-4 : tie.Need-returns-4
+returns-3 : tie.Need-returns-3
 unfolding rowWith rowIn
-returns-4 c curve =
+returns-3 c schedules =
     let t = c .before .before .before in
     let q = t .before .before .before in
     let p = q .before .before .before .before in
     let m = p .before in
-    let e = m .before .before in
-    let r = row (e .before .before) curve in
+    let s = m .before .before .before in
+    let r = row s schedules in
     let kw = rw (lmp-is (m .before)) at (c .before .before .on-curve .ensures) in
-    let least = m .minimum-online .ensures curve in
+    let least = m .minimum-online .ensures schedules in
     c .lesser .ensures
     ∙ ap (λ x. min x (r .maximum)) (c .before .greater .ensures)
-    ∙ scheduled-along _ _ r (some e) (below p (q .before .if2 .left)) (above q (t .if3 .left)) _ _ kw least
+    ∙ scheduled-along _ _ r (s .pre .0) (below p (q .before .if1 .left)) (above q (t .if2 .left)) _ _ kw least
 
 pub scheduled-spec : {M : Type 1} → statement M
 scheduled-spec =
     tie.close
     (tie.spec
-    returns
     minimum-online-requires
     point-at-requires
-    returns-2
+    returns
     sub-point-at
     point-at-requires-2
-    returns-3
+    returns-2
     on-curve-requires
     greater-requires
     lesser-requires
-    returns-4)
+    returns-3)

@@ -12,13 +12,13 @@ returns : tie.Need-returns
 unfolding rowWith rowIn
 returns c =
     let w = rowIn (c .before .args .row) in
-    (λ curve. denominator-generation (rowWith w curve) (c .match .keys1), row-in w [] (c .before .pre) .committed)
+    (λ schedules. denominator-generation (rowWith w schedules) (c .match .keys1), row-in w [] (c .before .pre) .committed)
 
 returns-2 : tie.Need-returns-2
 unfolding rowWith rowIn
 returns-2 c =
     let w = rowIn (c .before .args .row) in
-    (λ curve. denominator-other (rowWith w curve) (c .match .rest .1), omega arith)
+    (λ schedules. denominator-other (rowWith w schedules) (c .match .rest .1), omega arith)
 
 pub denominator-share-spec : {M : Type 1} → statement M
 denominator-share-spec = tie.close (tie.spec returns returns-2)

@@ -2,7 +2,7 @@
 use mathlib.Core.Path.{_≡_, _∙_}
 use native.Mathlib.Omega.{arith}
 use borrow.Author.Needs.{needs}
-use Rattle.reading.specs.Interval.{Row, rowWith, rowOf, curveOf}
+use Rattle.reading.specs.Interval.{Row, rowWith, rowOf}
 use Rattle.reading.specs.Values.{rowIn}
 use Rattle.reading.proofs.SoundRows.{sound-in}
 use Rattle.assessment.specs.Assessment.{actual}
@@ -17,8 +17,8 @@ row c = rowOf (c .args .file .now) (rowIn (c .args .row))
 
 -- its actual
 actual-is : (c : tie.After-actual) → c .actual .result .0 ≡ actual (row (c .before .before))
-unfolding rowOf
-actual-is c = let a = c .before .before .args in c .actual .ensures .0 (curveOf (a .file .now) (rowIn (a .row)))
+unfolding rowOf rowWith
+actual-is c = let a = c .before .before .args in c .actual .ensures .0 (rowOf (a .file .now) (rowIn (a .row)) .schedules)
 
 actual-requires : tie.Need-actual-requires
 actual-requires c κs = search needs

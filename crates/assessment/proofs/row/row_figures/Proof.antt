@@ -1,7 +1,7 @@
 -- `assessment::row::row_figures` meets its contract. Each way's figures are those of the definition for its kinds.
 use mathlib.Core.Path.{_≡_, sym, _∙_}
 use borrow.Author.Needs.{needs}
-use Rattle.reading.specs.Interval.{Row, rowWith, rowOf, curveOf}
+use Rattle.reading.specs.Interval.{Row, rowWith, rowOf}
 use Rattle.reading.specs.Values.{rowIn}
 use Rattle.assessment.specs.Assessment.{Ratio, actual, expected}
 use Rattle.assessment.specs.Values.{ratioIn}
@@ -20,16 +20,16 @@ ratio c = ratioIn (c .args .ratio)
 
 -- the row's actual
 actual-is : (c : tie.After-actual) → c .actual .result .0 ≡ actual (row (c .before .before))
-unfolding rowOf
-actual-is c = let a = c .before .before .args in c .actual .ensures .0 (curveOf (a .file .now) (rowIn (a .row)))
+unfolding rowOf rowWith
+actual-is c = let a = c .before .before .args in c .actual .ensures .0 (rowOf (a .file .now) (rowIn (a .row)) .schedules)
 
 -- what is expected of it
 expected-is : (c : tie.After-expected) → let s = c .before .before .before in
     c .expected .result .0 ≡ expected (ratio s) (row s)
-unfolding rowOf
+unfolding rowOf rowWith
 expected-is c =
     let a = c .before .before .before .args in
-    c .expected .ensures (curveOf (a .file .now) (rowIn (a .row)))
+    c .expected .ensures (rowOf (a .file .now) (rowIn (a .row)) .schedules)
 
 actual-requires : tie.Need-actual-requires
 actual-requires c κs = search needs

@@ -1,51 +1,69 @@
 -- `reading::header::header_of` meets its contract. Each word is the number at its place.
+use Prim.Native.Nat.{_≤_}
+use native.Mathlib.Omega.{arith}
 use borrow.Author.Needs.{needs}
+use lib.ListN.{length}
 use Rattle.words.specs.Words.{word32}
 use Rattle.reading.specs.Interval.{headerOf}
 use Rattle.reading.specs.Values.{headerIn}
+use Rattle.reading.proofs.Layouts.{header-least}
+use Rattle.reading.proofs.Facts.{format-read}
 use Rattle.reading.proofs.Parts.{signed-field}
 use Rattle.reading.proofs.header.header_of.Statement.{statement}
 use Rattle.reading.proofs.header.header_of.Tie as tie
 
+-- the file has the ten words of both formats
+long : (s : tie.Start) → 40 ≤ length (s .args .file .now)
+long s = omega (arith, s .pre, header-least (headerOf (s .args .file .now) .format))
+
 number32-requires : tie.Need-number32-requires
-number32-requires c κs = search needs
+number32-requires c κs = omega (arith, long (c .before))
 
 number32-requires-2 : tie.Need-number32-requires-2
-number32-requires-2 c κs = search needs
+number32-requires-2 c κs = omega (arith, long (c .before .before))
 
 number32-requires-3 : tie.Need-number32-requires-3
-number32-requires-3 c κs = search needs
+number32-requires-3 c κs = omega (arith, long (c .before .before .before))
 
 number32-requires-4 : tie.Need-number32-requires-4
-number32-requires-4 c κs = search needs
+number32-requires-4 c κs = omega (arith, long (c .before .before .before .before))
 
 number32-requires-5 : tie.Need-number32-requires-5
-number32-requires-5 c κs = search needs
+number32-requires-5 c κs = omega (arith, long (c .before .before .before .before .before))
 
 number32-requires-6 : tie.Need-number32-requires-6
-number32-requires-6 c κs = search needs
+number32-requires-6 c κs = omega (arith, long (c .before .before .before .before .before .before))
 
 signed-requires : tie.Need-signed-requires
 signed-requires c κs = search needs
 
 number32-requires-7 : tie.Need-number32-requires-7
-number32-requires-7 c κs = search needs
+number32-requires-7 c κs = omega (arith, long (c .before .before .before .before .before .before .before .before))
 
 number32-requires-8 : tie.Need-number32-requires-8
-number32-requires-8 c κs = search needs
+number32-requires-8 c κs = omega (arith, long (c .before .before .before .before .before .before .before .before .before))
 
 number32-requires-9 : tie.Need-number32-requires-9
-number32-requires-9 c κs = search needs
+number32-requires-9 c κs = omega (arith, long (c .before .before .before .before .before .before .before .before .before .before))
 
 number32-requires-10 : tie.Need-number32-requires-10
-number32-requires-10 c κs = search needs
+number32-requires-10 c κs = omega (arith, long (c .before .before .before .before .before .before .before .before .before .before .before))
+
+schedule-count-requires : tie.Need-schedule-count-requires
+unfolding headerOf word32
+schedule-count-requires c κs = format-read _ (c .before .before .before .before .before .before .before .before .before .before .number32 .ensures .0) (c .before .before .before .before .before .before .before .before .before .before .before .before .pre)
+
+schedule-offset-requires : tie.Need-schedule-offset-requires
+unfolding headerOf word32
+schedule-offset-requires c κs = format-read _ (c .before .before .before .before .before .before .before .before .before .before .before .number32 .ensures .0) (c .before .before .before .before .before .before .before .before .before .before .before .before .before .pre)
 
 returns : tie.Need-returns
 unfolding headerIn headerOf word32
 returns c =
-    let w6 = c .before .before .before .before .before in
+    let w10 = c .before .before in
+    let w6 = w10 .before .before .before .before .before in
     let w5 = w6 .before in
-    let imports = c .before .before .before .before .signed in
+    let imports = w10 .before .before .before .before .signed in
     let sixth = signed-field (imports .result) (imports .ensures .0) (imports .ensures .1) (w6 .number326 .ensures .0) in
     λ x. record {
       format = w5 .before .before .before .before .number32 .ensures .0 x;
@@ -54,10 +72,12 @@ returns c =
       days = w5 .before .number324 .ensures .0 x;
       regionWide = w5 .number325 .ensures .0 x;
       imports = sixth x;
-      rowCount = c .before .before .before .number327 .ensures .0 x;
-      rowsOffset = c .before .before .number328 .ensures .0 x;
-      pointCount = c .before .number329 .ensures .0 x;
-      pointsOffset = c .number3210 .ensures .0 x;
+      rowCount = w10 .before .before .before .number327 .ensures .0 x;
+      rowsOffset = w10 .before .before .number328 .ensures .0 x;
+      pointCount = w10 .before .number329 .ensures .0 x;
+      pointsOffset = w10 .number3210 .ensures .0 x;
+      scheduleCount = c .before .schedule-count .ensures x;
+      schedulesOffset = c .schedule-offset .ensures x;
     }
 
 pub header-of-spec : {M : Type 1} → statement M
@@ -75,4 +95,6 @@ header-of-spec =
     number32-requires-8
     number32-requires-9
     number32-requires-10
+    schedule-count-requires
+    schedule-offset-requires
     returns)

@@ -1,18 +1,23 @@
--- `reading::header::tables_misplaced` meets its contract. Each test is one of the ground.
-use Prim.Native.Nat.{_<_, _^_}
-use mathlib.Core.Path.{sym, _∙_}
+-- `reading::header::tables_misplaced` meets its contract. Each test of a number is one of the ground, and so is that of the places.
+use Prim.Native.Nat.{_*_, _≤_}
+use mathlib.Core.Path.{sym, ap, _∙_}
+use mathlib.Core.Bool.{Bool}
+use native.Mathlib.Nat.{mul-le-mul}
 use native.Mathlib.Omega.{arith}
 use borrow.Author.Needs.{needs}
 use lib.ListN.{length}
-use Rattle.reading.specs.Values.{headerIn}
-use Rattle.reading.proofs.HeaderTests.{rows-none, rows-many, points-many, rows-leave, points-leave, tables-left}
-use Rattle.reading.proofs.SpanTests.{stretch-lies, ends-below}
+use Rattle.reading.specs.Interval.{Layout, pointBytes, scheduleBytes, placesOutside}
+use Rattle.reading.specs.Values.{tableIn, layoutIn, headerIn}
+use Rattle.reading.proofs.Layouts.{row-most}
+use Rattle.reading.proofs.HeaderTests.{rows-none, rows-many, points-many, schedules-many, places-left}
 use Rattle.reading.proofs.header.tables_misplaced.Statement.{statement}
 use Rattle.reading.proofs.header.tables_misplaced.Tie as tie
 
 returns : tie.Need-returns
 unfolding headerIn
-returns c = let s = c .before .before .before in sym (rows-none _ (headerIn (s .args .h)) (s .pre .says) (omega arith))
+returns c =
+    let s = c .before .before .before in
+    sym (rows-none _ (headerIn (s .args .h)) (s .pre .says) (omega arith))
 
 returns-2 : tie.Need-returns-2
 unfolding headerIn
@@ -26,49 +31,48 @@ returns-3 c =
     let s = c .before .before .before .before .before .before .before in
     sym (points-many _ (headerIn (s .args .h)) (s .pre .says) (omega arith))
 
-mul-leaves : tie.Need-mul-leaves
-mul-leaves c = search needs
-
-leaves-requires : tie.Need-leaves-requires
-leaves-requires c κs = search needs
-
 returns-4 : tie.Need-returns-4
 unfolding headerIn
 returns-4 c =
-    let s = c .before .before .before .before .before .before .before .before .before .before in
-    sym (rows-leave _ (headerIn (s .args .h)) (s .pre .says) (sym (c .before .leaves .ensures) ∙ c .if4 .taken))
+    let s = c .before .before .before .before .before .before .before .before .before in
+    sym (schedules-many _ (headerIn (s .args .h)) (s .pre .says) (omega arith))
 
-mul-leaves-2 : tie.Need-mul-leaves-2
-mul-leaves-2 c = search needs
+layout-of-requires : tie.Need-layout-of-requires
+layout-of-requires c κs = search needs
 
-leaves-requires-2 : tie.Need-leaves-requires-2
-leaves-requires-2 c κs = search needs
+mul-places-outside : tie.Need-mul-places-outside
+unfolding layoutIn
+mul-places-outside c =
+    let l = c .before .before in
+    let s = l .before .before .before .before .before .before .before .before .before .before in
+    let size = ap (λ l. l .rowBytes) (l .layout-of .ensures) in
+    let most : l .layout-of .result .«row_bytes» ≤ 60 = omega (arith, size, row-most (s .args .h .format)) in
+    let rows : s .args .h .rows ≤ 512 = omega arith in
+    omega (arith, mul-le-mul most rows)
+
+mul-places-outside-2 : tie.Need-mul-places-outside-2
+mul-places-outside-2 c = search needs
+
+mul-places-outside-3 : tie.Need-mul-places-outside-3
+mul-places-outside-3 c = search needs
+
+places-outside-requires : tie.Need-places-outside-requires
+places-outside-requires c κs = search needs
 
 returns-5 : tie.Need-returns-5
-unfolding headerIn
+unfolding layoutIn tableIn headerIn
 returns-5 c =
-    let s = c .before .before .before .before .before .before .before .before .before .before .before .before .before in
-    sym (points-leave _ (headerIn (s .args .h)) (s .pre .says) (sym (c .before .leaves2 .ensures) ∙ c .if5 .taken))
-
-overlaps-requires : tie.Need-overlaps-requires
-overlaps-requires c κs =
-    let e4 = c .before .before .before in
-    let rows = stretch-lies _ _ _ _ (sym (e4 .before .leaves .ensures) ∙ e4 .if4 .left) in
-    let points = stretch-lies _ _ _ _ (sym (c .before .leaves2 .ensures) ∙ c .if5 .left) in
-    let s = e4 .before .before .before .before .before .before .before .before .before .before in
-    let long : length (s .args .file .now) < 2 ^ 64 = omega arith in
-    (ends-below _ _ _ rows long, ends-below _ _ _ points long)
-
-returns-6 : tie.Need-returns-6
-unfolding headerIn
-returns-6 c =
-    let e5 = c .before in
-    let e4 = e5 .before .before .before in
-    let s = e4 .before .before .before .before .before .before .before .before .before .before in
-    let rows-lie = sym (e4 .before .leaves .ensures) ∙ e4 .if4 .left in
-    let points-lie = sym (e5 .before .leaves2 .ensures) ∙ e5 .if5 .left in
-    let left = tables-left _ (headerIn (s .args .h)) (s .pre .says) in
-    c .overlaps .ensures ∙ sym (left (omega arith) (omega arith) (omega arith) rows-lie points-lie)
+    let l = c .before .before .before .before .before in
+    let s = l .before .before .before .before .before .before .before .before .before .before in
+    let f = s .args .file .now in
+    let h = s .args .h in
+    let places : Layout → Bool = λ l. placesOutside (l .headerBytes) (length f)
+    (record { at = h .«rows_at»; bytes = l .rowBytes * h .rows })
+    (record { at = h .«points_at»; bytes = pointBytes * h .points })
+    (record { at = h .«schedules_at»; bytes = scheduleBytes * h .schedules }) in
+    c .places-outside .ensures
+    ∙ ap places (l .layout-of .ensures)
+    ∙ sym (places-left f (headerIn h) (s .pre .says) (omega arith) (omega arith) (omega arith) (omega arith))
 
 pub tables-misplaced-spec : {M : Type 1} → statement M
 tables-misplaced-spec =
@@ -77,11 +81,10 @@ tables-misplaced-spec =
     returns
     returns-2
     returns-3
-    mul-leaves
-    leaves-requires
     returns-4
-    mul-leaves-2
-    leaves-requires-2
-    returns-5
-    overlaps-requires
-    returns-6)
+    layout-of-requires
+    mul-places-outside
+    mul-places-outside-2
+    mul-places-outside-3
+    places-outside-requires
+    returns-5)

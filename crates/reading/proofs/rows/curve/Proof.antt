@@ -1,77 +1,41 @@
--- `reading::rows::curve` meets its contract. Without points the part from the table on, else from the first of them.
+-- `reading::rows::curve` meets its contract. The part of the file from the first point on.
 use Prim.Native.Nat.{_+_, _*_}
 use native.Mathlib.Omega.{arith}
 use borrow.Author.Needs.{needs}
-use Rattle.reading.specs.Values.{headerIn, rowIn}
+use Rattle.reading.specs.Interval.{pointBytes}
+use Rattle.reading.specs.Values.{headerIn, scheduleIn}
 use Rattle.reading.proofs.CurveTests.{points-end}
-use Rattle.reading.proofs.Parts.{length-part, curve-none, curve-some}
+use Rattle.reading.proofs.Parts.{length-part, curve-part}
 use Rattle.reading.proofs.rows.curve.Statement.{statement}
 use Rattle.reading.proofs.rows.curve.Tie as tie
 
+mul-at : tie.Need-mul-at
+unfolding scheduleIn
+mul-at c = let s = c .before in omega (arith, points-end (s .args .h .points) (scheduleIn (s .args .s)) (s .pre .1))
+
+add-at : tie.Need-add-at
+unfolding scheduleIn
+add-at c = let s = c .before .before in omega (arith, points-end (s .args .h .points) (scheduleIn (s .args .s)) (s .pre .1))
+
 sub-result : tie.Need-sub-result
-sub-result c = search needs
+unfolding scheduleIn
+sub-result c = let s = c .before .before in omega (arith, points-end (s .args .h .points) (scheduleIn (s .args .s)) (s .pre .1))
 
 part-result-start : tie.Need-part-result-start
-part-result-start c = search needs
+unfolding scheduleIn
+part-result-start c = let s = c .before .before in omega (arith, points-end (s .args .h .points) (scheduleIn (s .args .s)) (s .pre .1))
 
 part-result-end : tie.Need-part-result-end
 part-result-end c = search needs
 
 returns : tie.Need-returns
-unfolding headerIn rowIn
+unfolding headerIn scheduleIn
 returns c =
     let s = c .before .before .before in
-    let none = curve-none (s .args .file .now) (headerIn (s .args .h)) (rowIn (s .args .row)) (s .pre .0 .read .says) in
-    (none (omega arith), omega arith)
-
-mul-at : tie.Need-mul-at
-unfolding rowIn
-mul-at c =
-    let s = c .before .before .before in
-    omega (arith, points-end (s .args .h .points) (rowIn (s .args .row)) (s .pre .1) (omega arith))
-
-add-at : tie.Need-add-at
-unfolding rowIn
-add-at c =
-    let s = c .before .before .before in
-    omega (arith, points-end (s .args .h .points) (rowIn (s .args .row)) (s .pre .1) (omega arith))
-
-sub-result-2 : tie.Need-sub-result-2
-unfolding rowIn
-sub-result-2 c =
-    let s = c .before .before .before in
-    omega (arith, points-end (s .args .h .points) (rowIn (s .args .row)) (s .pre .1) (omega arith))
-
-part-result-start-2 : tie.Need-part-result-start-2
-unfolding rowIn
-part-result-start-2 c =
-    let s = c .before .before .before in
-    omega (arith, points-end (s .args .h .points) (rowIn (s .args .row)) (s .pre .1) (omega arith))
-
-part-result-end-2 : tie.Need-part-result-end-2
-part-result-end-2 c = search needs
-
-returns-2 : tie.Need-returns-2
-unfolding headerIn rowIn
-returns-2 c =
-    let s = c .before .before .before .before in
     let f = s .args .file .now in
-    let ends = points-end (s .args .h .points) (rowIn (s .args .row)) (s .pre .1) (omega arith) in
-    let long = length-part f (s .args .h .«points_at» + 8 * s .args .row .first) in
-    let some = curve-some f (headerIn (s .args .h)) (rowIn (s .args .row)) (s .pre .0 .read .says) in
-    (some (omega arith), omega (arith, ends, long))
+    let ends = points-end (s .args .h .points) (scheduleIn (s .args .s)) (s .pre .1) in
+    let long = length-part f (s .args .h .«points_at» + pointBytes * s .args .s .first) in
+    (curve-part f (headerIn (s .args .h)) (scheduleIn (s .args .s)) (s .pre .0 .read .says), omega (arith, ends, long))
 
 pub curve-spec : {M : Type 1} → statement M
-curve-spec =
-    tie.close
-    (tie.spec
-    sub-result
-    part-result-start
-    part-result-end
-    returns
-    mul-at
-    add-at
-    sub-result-2
-    part-result-start-2
-    part-result-end-2
-    returns-2)
+curve-spec = tie.close (tie.spec mul-at add-at sub-result part-result-start part-result-end returns)
