@@ -112,7 +112,7 @@ pub fn first_made<T>(what: &str, mut attempt: impl FnMut() -> Option<T>) -> T {
 /// How large cases may get.
 #[derive(Clone, Copy, Debug)]
 pub struct Size {
-    /// Most ids of a year, at least 3.
+    /// Most ids of a year, at least 6.
     ids: usize,
     /// Most rows of a file.
     rows: usize,
@@ -250,9 +250,13 @@ impl SettleCase {
 
 // ---------------------------------------------------------------- any case
 
+/// The grounds of opening and of settling, in checking order.
+pub const OPENING_GROUNDS: [u32; 6] = [1, 2, 23, 3, 4, 5];
+pub const SETTLING_GROUNDS: [u32; 11] = [6, 7, 8, 9, 10, 11, 12, 13, 14, 15, 16];
+
 /// An opening with faults of two grounds, to test the order.
 fn doubly_damaged_open(rng: &mut Rng, size: &Size) -> OpenCase {
-    let (first, second) = two_grounds(rng, 1, 5);
+    let (first, second) = two_grounds(rng, &OPENING_GROUNDS);
     let case = valid_open(rng, size);
     let case = refused_open(rng, size, case, second);
     refused_open(rng, size, case, first)
@@ -260,17 +264,18 @@ fn doubly_damaged_open(rng: &mut Rng, size: &Size) -> OpenCase {
 
 /// A settling with faults of two grounds, to test the order.
 fn doubly_damaged_settle(rng: &mut Rng, size: &Size) -> SettleCase {
-    let (first, second) = two_grounds(rng, 6, 16);
+    let (first, second) = two_grounds(rng, &SETTLING_GROUNDS);
     let case = valid_settle(rng, size);
     let case = refused_settle(rng, size, case, second);
     refused_settle(rng, size, case, first)
 }
 
-/// Two grounds in checking order, often neighbours.
-fn two_grounds(rng: &mut Rng, low: u32, high: u32) -> (u32, u32) {
-    let first = rng.between(low.into(), i64::from(high) - 1) as u32;
-    let second = rng.between(i64::from(first) + 1, high.into()) as u32;
-    (first, rng.pick(&[first + 1, second]))
+/// Two of the grounds in checking order, often neighbours.
+fn two_grounds(rng: &mut Rng, grounds: &[u32]) -> (u32, u32) {
+    let first = rng.index(grounds.len() - 1);
+    let later = &grounds[first + 1..];
+    let second = rng.pick(later);
+    (grounds[first], rng.pick(&[later[0], second]))
 }
 
 /// Damages an opening until this ground is answered, or gives up.
@@ -325,7 +330,7 @@ pub fn scramble(rng: &mut Rng, buffer: &mut [u8]) {
 
 /// A call to opening of any sort, from valid to random bytes.
 pub fn open_call(rng: &mut Rng, size: &Size) -> OpenCall {
-    let ground = 1 + rng.below(5) as u32;
+    let ground = rng.pick(&OPENING_GROUNDS);
     open_call_for(rng, size, ground)
 }
 
@@ -349,7 +354,7 @@ pub fn open_call_for(rng: &mut Rng, size: &Size, ground: u32) -> OpenCall {
 
 /// A call to settling of any sort, from valid to random bytes.
 pub fn settle_call(rng: &mut Rng, size: &Size) -> SettleCall {
-    let ground = 6 + rng.below(11) as u32;
+    let ground = rng.pick(&SETTLING_GROUNDS);
     settle_call_for(rng, size, ground)
 }
 

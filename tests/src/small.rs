@@ -3,7 +3,8 @@
 use crate::pages::small_page;
 use crate::random::{
     accepted_event, event_of_one, long_open, long_settle, open_call_for, refused_event,
-    settle_call_for, small_event, EventCall, OpenCall, Rng, RunningYear, SettleCall, SMALL,
+    settle_call_for, small_event, EventCall, OpenCall, Rng, RunningYear, SettleCall,
+    OPENING_GROUNDS, SMALL,
 };
 use crate::reference;
 
@@ -80,7 +81,7 @@ pub fn cases(seed: u64, count: u64) -> Vec<Case> {
             (200, _) => Case::open(long_open(&mut rng, &SMALL)),
             (399, _) => Case::settle(long_settle(&mut rng, &SMALL)),
             (_, 0) => {
-                let ground = 1 + (index / 4 % 5) as u32;
+                let ground = OPENING_GROUNDS[index as usize / 4 % OPENING_GROUNDS.len()];
                 Case::open(open_call_for(&mut rng, &SMALL, ground))
             }
             (_, 1) => {

@@ -1,8 +1,8 @@
 //! Streams for the listing program: whole, refused at every ground, cut everywhere, at every limit, and long.
 
 use crate::layout::{
-    ledger_bytes, push_block, result_bytes, stream_of, IntervalFile, Ledger, Opening, Row,
-    BLOCK_MOST, DAY_INTERVALS, FILE_MOST, HEADER_BYTES, IDS_MOST, KW_MOST, POINTS_MOST, ROWS_MOST,
+    ledger_bytes, push_block, result_bytes, stream_of, IntervalFile, Opening, Row, BLOCK_MOST,
+    DAY_INTERVALS, FILE_MOST, HEADER_BYTES, IDS_MOST, KW_MOST, POINTS_MOST, ROWS_MOST,
 };
 use crate::listing;
 use crate::random::{
@@ -48,7 +48,7 @@ pub fn prefixes() -> Vec<Case> {
 pub fn refused_openings(rng: &mut Rng, each: usize) -> Vec<Case> {
     let file = listing::file(1000).bytes();
     let mut cases = Vec::new();
-    for ground in 1..=4 {
+    for ground in [1, 2, 23, 3, 4] {
         for number in 0..each {
             let name = format!("opening refused by {ground}, number {number}");
             let block = first_made(&name, || {
@@ -81,7 +81,7 @@ fn refused_in_the_middle(rng: &mut Rng, ground: u32) -> Vec<u8> {
         let world = World::any(rng, &MIDDLE);
         let [first, last] = [10, 12].map(|interval| world.file(rng, &MIDDLE, interval).bytes());
         let mut case = SettleCase {
-            ledger: Ledger::new(world.net_cone, world.days, &world.ids),
+            ledger: world.opened(),
             file: world.file(rng, &MIDDLE, 11),
             result_length: result_bytes(ROWS_MOST),
         };
@@ -125,32 +125,39 @@ fn full_pool() -> Vec<u8> {
 /// Blocks with lengths at, below and over each limit: whole, cut behind the length, and cut inside.
 pub fn lengths() -> Vec<Case> {
     let far = [1 << 16, 1 << 24, 1 << 31, u32::MAX];
-    let openings = [0, 1, 19, 20, 35, 36, 37, 4095, 4096, 4097, 49_152];
+    let openings = [
+        0, 1, 19, 20, 23, 24, 35, 36, 37, 39, 40, 41, 4095, 4096, 4097, 49_152,
+    ];
     let files = [0, 1, 39, 40, 41, 311, 312, 313, 49_151, 49_152, 49_153];
     let mut cases = Vec::new();
     for length in openings.into_iter().chain(far) {
-        cases.extend(openings_of(length));
+        cases.extend(openings_of(&listing::opening(), length));
+        cases.extend(openings_of(&listing::opening_of(2016), length));
     }
     for length in files.into_iter().chain(far) {
         cases.extend(files_of(length));
     }
-    cases.push(Case::new("limits reached", at_the_limits()));
+    for year in [0, 2016] {
+        let name = format!("limits reached, year {year}");
+        cases.push(Case::new(name, at_the_limits(year)));
+    }
     cases
 }
 
 /// Blocks one byte over each limit, whose lengths end a listing.
 pub fn too_long() -> Vec<Case> {
-    let mut cases = openings_of(BLOCK_MOST as u32 + 1);
+    let mut cases = openings_of(&listing::opening(), BLOCK_MOST as u32 + 1);
     cases.extend(files_of(FILE_MOST as u32 + 1));
     cases
 }
 
-/// The opening of document 01 with this length.
-fn openings_of(length: u32) -> Vec<Case> {
-    let mut opening = listing::opening();
-    let files = &two_intervals()[4 + opening.length..];
+/// An opening with this length, before the files of document 01's.
+fn openings_of(opening: &Opening, length: u32) -> Vec<Case> {
+    let mut opening = opening.clone();
+    let files = &two_intervals()[4 + listing::opening().length..];
     opening.length = length.min(100_000) as usize;
-    at_length("opening", &[], &opening.bytes(), length, files)
+    let name = format!("opening of format {}", opening.words[0]);
+    at_length(&name, &[], &opening.bytes(), length, files)
 }
 
 /// The file of document 01 with this length, behind two and before one that have their own.
@@ -176,9 +183,10 @@ fn at_length(name: &str, before: &[u8], block: &[u8], length: u32, behind: &[u8]
 }
 
 /// The longest opening with the most ids, and the longest file with the most rows and points, each point of some row.
-fn at_the_limits() -> Vec<u8> {
-    let world = World::full();
-    let mut opening = Opening::new(world.net_cone, world.days, &world.ids);
+fn at_the_limits(year: u32) -> Vec<u8> {
+    let mut world = World::full();
+    world.year = year;
+    let mut opening = world.block();
     opening.place(BLOCK_MOST - 4 * IDS_MOST, 0);
     let mut file = world.full_file(&mut Rng::new(1), 0, ROW_POINTS);
     file.place(HEADER_BYTES + file.point_bytes(), HEADER_BYTES, FILE_MOST);
@@ -197,7 +205,7 @@ fn full_files(count: u32) -> Vec<Vec<u8>> {
 /// The full year with so many of its files.
 pub fn full_intervals(count: u32) -> Vec<u8> {
     let world = World::full();
-    let mut stream = stream_of(&[&Opening::new(world.net_cone, world.days, &world.ids).bytes()]);
+    let mut stream = stream_of(&[&world.block().bytes()]);
     for file in full_files(count) {
         push_block(&mut stream, &file);
     }

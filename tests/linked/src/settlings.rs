@@ -91,6 +91,11 @@ fn listing() -> SettleCase {
     settling_of(&IDS, listing::file(1_000))
 }
 
+/// The same in a ledger of 2016.
+fn listing_of_2016() -> SettleCase {
+    with(&listing(), |case| case.ledger.words[7] = 2016)
+}
+
 /// A demand resource that is 40 kW short.
 fn short_row(id: u32) -> [u32; 14] {
     let row = Row {
@@ -118,9 +123,17 @@ fn with(case: &SettleCase, change: impl FnOnce(&mut SettleCase)) -> SettleCase {
     changed
 }
 
-/// The listing with each bit of its ledger and of its file turned.
+/// The listing with each bit of its ledger and of its file turned, without a year and in 2016.
 fn single_bits(rng: &mut Rng) -> Vec<Call<2>> {
-    let call = listing().call(rng);
+    let cases = [listing(), listing_of_2016()];
+    cases
+        .iter()
+        .flat_map(|case| bits_of(&case.call(rng)))
+        .collect()
+}
+
+/// A call with each bit of its ledger and of its file turned.
+fn bits_of(call: &SettleCall) -> Vec<Call<2>> {
     let (in_ledger, in_file) = (8 * call.ledger.len(), 8 * call.file.len());
     let turned = |bit: usize| {
         let mut turned = call.clone();
@@ -212,6 +225,8 @@ fn any_words(rng: &mut Rng) -> SettleCall {
         }
     }
     case.ledger.words[3] = rng.pick(&[0, 999, 1_000, 1_000, 1_001]);
+    let year = u64::from(rng.near(&[2016, 2018, 2023]));
+    case.ledger.words[7] = rng.pick(&[0, 0, 2016, 2018, year]);
     case.result_length = result_bytes(4) - 2 + rng.pick(&[0, 1, 2, 2, 2, 3, 40]);
     let mut call = case.call(rng);
     let least_kw = 0u32.wrapping_sub(KW_MOST);

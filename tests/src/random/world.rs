@@ -2,9 +2,9 @@
 
 use super::{first_made, OpenCase, Rng, SettleCase, Size};
 use crate::layout::{
-    self, ledger_bytes, limit, long_at, result_bytes, IntervalFile, Ledger, Opening, Row,
-    CHARGE_DIVISOR, DAY_INTERVALS, HEADER_BYTES, IDS_MOST, IMPORTS_MOST, KW_MOST, OPENING_BYTES,
-    POINTS_MOST, POOL_MOST,
+    self, ledger_bytes, long_at, result_bytes, IntervalFile, Ledger, Opening, Row, Terms,
+    DAY_INTERVALS, HALVED_YEAR, HEADER_BYTES, IDS_MOST, IMPORTS_MOST, KW_MOST, POINTS_MOST,
+    POOL_MOST, YEARS,
 };
 use crate::reference;
 
@@ -16,6 +16,8 @@ const PRICE_MOST: i64 = layout::PRICE_MOST as i64;
 pub struct World {
     pub net_cone: u32,
     pub days: u32,
+    /// The calendar year in which it starts; 0 if the opening does not name it.
+    pub year: u32,
     pub ids: Vec<u32>,
     /// The kW that figures of this year usually stay below.
     scale: u32,
@@ -30,9 +32,11 @@ impl World {
         let usual = 20_000 + rng.below(20_000) as u32;
         let free = 1 + rng.below(200_000) as u32;
         let count = rng.up_to(size.ids);
+        let (year, days) = year_and_days(rng);
         World {
             net_cone: rng.pick(&[1, tiny, usual, usual, free, 200_000]),
-            days: rng.pick(&[365, 366]),
+            days,
+            year,
             ids: rising_ids(rng, count),
             scale: rng.pick(&[3, 50, 5_000, 200_000, KW_MOST]),
             short: rng.one_in(4),
@@ -41,10 +45,13 @@ impl World {
 
     /// A year whose pool can reach its limit.
     pub(super) fn heavy(rng: &mut Rng, size: &Size) -> Self {
-        let count = 3 + rng.index(size.ids.min(8) - 2);
+        let (year, days) = year_and_days(rng);
+        let least = heavy_accounts(year);
+        let count = least + rng.index(size.ids.min(8) - least + 1);
         World {
             net_cone: rng.between(170_000, 200_000) as u32,
-            days: rng.pick(&[365, 366]),
+            days,
+            year,
             ids: rising_ids(rng, count),
             scale: KW_MOST,
             short: true,
@@ -56,6 +63,7 @@ impl World {
         World {
             net_cone: 30_000,
             days: 365,
+            year: 0,
             ids: rising(IDS_MOST),
             scale: 200_000,
             short: false,
@@ -67,9 +75,13 @@ impl World {
         DAY_INTERVALS * self.days
     }
 
-    /// The limit of a commitment.
-    fn limit(&self, commitment: u64) -> u64 {
-        limit(self.net_cone.into(), self.days.into(), commitment)
+    /// The terms that limits and charges go by.
+    fn terms(&self) -> Terms {
+        Terms {
+            net_cone: self.net_cone.into(),
+            days: self.days.into(),
+            year: self.year.into(),
+        }
     }
 
     /// Some kW, often 0 or the scale.
@@ -90,9 +102,10 @@ impl World {
     /// whole ones, often these.
     fn edge_kw(&self, rng: &mut Rng) -> u32 {
         let cents = u64::from(self.net_cone) * u64::from(self.days);
-        let half = CHARGE_DIVISOR / 2;
+        let divisor = self.terms().charge_divisor();
+        let half = divisor / 2;
         let exact = half / common_divisor(cents, half);
-        let edge = if exact * cents % CHARGE_DIVISOR == half && rng.one_in(2) {
+        let edge = if exact * cents % divisor == half && rng.one_in(2) {
             exact * (1 + 2 * rng.below(3))
         } else {
             let steps = 1 + rng.below(5);
@@ -101,18 +114,33 @@ impl World {
         (edge - rng.below(2)).min(u64::from(KW_MOST)) as u32
     }
 
+    /// An opening block with the ids right behind its first words.
+    pub(crate) fn block(&self) -> Opening {
+        match self.year {
+            0 => Opening::new(self.net_cone, self.days, &self.ids),
+            year => Opening::of_year(year, self.net_cone, self.days, &self.ids),
+        }
+    }
+
     /// An opening block with the ids anywhere in it.
     pub(crate) fn opening(&self, rng: &mut Rng, size: &Size) -> Opening {
-        let mut opening = Opening::new(self.net_cone, self.days, &self.ids);
+        let mut opening = self.block();
         let before = size.pick_gap(rng);
         let behind = size.pick_gap(rng);
-        opening.place(OPENING_BYTES + before, behind);
+        opening.place(opening.front() + before, behind);
         opening
+    }
+
+    /// A ledger as opening leaves it.
+    pub(crate) fn opened(&self) -> Ledger {
+        let mut ledger = Ledger::new(self.net_cone, self.days, &self.ids);
+        ledger.words[7] = self.year.into();
+        ledger
     }
 
     /// A ledger as opened, or with sums of a year so far.
     fn ledger(&self, rng: &mut Rng, size: &Size) -> Ledger {
-        let mut ledger = Ledger::new(self.net_cone, self.days, &self.ids);
+        let mut ledger = self.opened();
         ledger.length += size.pick_gap(rng);
         if !rng.one_in(4) {
             let last = u64::from(self.intervals()) - 1;
@@ -131,7 +159,7 @@ impl World {
         let mut total = 0;
         for account in &mut ledger.accounts {
             account[1] = self.kw(rng).into();
-            let limit = self.limit(account[1]);
+            let limit = self.terms().limit(account[1]);
             account[2] = match rng.below(6) {
                 0 => 0,
                 1 => limit,
@@ -151,11 +179,11 @@ impl World {
         spread_credits(rng, ledger, credited);
     }
 
-    /// A ledger with this many cents carried, by three accounts near their limits.
+    /// A ledger with this many cents carried, by accounts near their limits.
     pub(super) fn heavy_ledger(&self, rng: &mut Rng, carried: u64) -> Ledger {
-        let mut ledger = Ledger::new(self.net_cone, self.days, &self.ids);
-        let limit = self.limit(KW_MOST.into());
-        for account in &mut ledger.accounts[..3] {
+        let mut ledger = self.opened();
+        let limit = self.terms().limit(KW_MOST.into());
+        for account in &mut ledger.accounts[..heavy_accounts(self.year)] {
             account[1] = KW_MOST.into();
             account[2] = limit - rng.below(1_000_000_000);
         }
@@ -356,6 +384,25 @@ impl World {
             (4, _) => (0, a),
             _ => (a.min(b), a.max(b)),
         }
+    }
+}
+
+/// A year, by thirds none, 2016 or any, and a number of days that it may have.
+fn year_and_days(rng: &mut Rng) -> (u32, u32) {
+    let any = rng.pick(&YEARS);
+    let year = rng.pick(&[0, HALVED_YEAR, any]);
+    let days = match year {
+        HALVED_YEAR => 365,
+        _ => rng.pick(&[365, 366]),
+    };
+    (year, days)
+}
+
+/// The accounts whose limits together are above the largest pool.
+fn heavy_accounts(year: u32) -> usize {
+    match year {
+        HALVED_YEAR => 6,
+        _ => 3,
     }
 }
 

@@ -3,7 +3,7 @@
 use super::{cut, damage_settle, first_made, open_call, settle_counts_fit};
 use super::{EventCall, Rng, SettleCall, SettleCase, Size, World};
 use crate::layout::{
-    ledger_bytes, long_at, push_block, result_bytes, IntervalFile, Ledger, BLOCK_MOST, FILE_MOST,
+    ledger_bytes, long_at, push_block, result_bytes, IntervalFile, BLOCK_MOST, FILE_MOST,
 };
 use crate::reference;
 
@@ -107,7 +107,7 @@ impl RunningYear {
             file = self.world.file(rng, size, interval);
         }
         let mut case = SettleCase {
-            ledger: Ledger::new(self.world.net_cone, self.world.days, &self.world.ids),
+            ledger: self.world.opened(),
             result_length: result_bytes(file.rows.len()) + size.pick_gap(rng),
             file,
         };

@@ -17,7 +17,7 @@ fn raise(word: &mut u64, value: u64) {
     *word = value.max(*word);
 }
 
-const LEDGER: [Fault; 13] = [
+const LEDGER: [Fault; 16] = [
     (6, |case| case.ledger.length = 0),
     (6, |case| case.ledger.length = 63),
     (6, |case| case.ledger.length = ledger_bytes(4) - 1),
@@ -28,6 +28,9 @@ const LEDGER: [Fault; 13] = [
     (6, |case| case.ledger.words[5] = 5),
     (6, |case| case.ledger.words[6] = 9),
     (6, |case| case.ledger.words[7] = 1),
+    (6, |case| case.ledger.words[7] = 2016), // with 366 days
+    (6, |case| case.ledger.words[7] = 2017),
+    (6, |case| case.ledger.words[7] = (1 << 32) + 2018),
     (6, |case| case.ledger.accounts[0][0] = 0),
     (6, |case| case.ledger.accounts[3][1] = 4_000_001),
     (6, |case| case.ledger.accounts[2][3] += 1),
