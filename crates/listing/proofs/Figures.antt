@@ -22,6 +22,7 @@ npalist-figures = record {
   long-opening = refl;
   long-interval = refl;
   length-at-limit = refl;
+  long-format-1 = refl;
   zero-digits = refl;
   one-digit = refl;
   two-digits = refl;

@@ -60,6 +60,8 @@ headerSaid h = record {
   «rows_at» = h .rowsOffset;
   points = h .pointCount;
   «points_at» = h .pointsOffset;
+  schedules = h .scheduleCount;
+  «schedules_at» = h .schedulesOffset;
 }
 
 -- a ledger, a file and a result buffer that settling accepts
@@ -108,7 +110,7 @@ not-refused : (ledger file result : List ℕ) → settling ledger file result .g
 unfolding settlingGrounds groundsBeforePool laterGrounds rowGrounds any poolTooLarge
 not-refused ledger file result e =
     let none = none-applies (settlingGrounds ledger file result) refl (settling-none ledger file result e) in
-    record { ledger-holds = search facts depth 14; file-holds = search facts depth 14; pool = search facts depth 14 }
+    record { ledger-holds = search facts depth 15; file-holds = search facts depth 15; pool = search facts depth 15 }
 
 -- values of a ledger and a file that no ground before the pool refuses are as settling relies on
 said-passed : (ledger file result : List ℕ) → notALedger ledger ≡ false → notAFile file ≡ false

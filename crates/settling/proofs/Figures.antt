@@ -4,6 +4,8 @@ use mathlib.Core.Path.{refl}
 use Rattle.ledger.specs.Figures.{blockWith, listingBlock, openedListing, ledgerWith}
 use Rattle.settling.specs.Figures.{
   fileWith,
+  fileOfSchedules,
+  naming,
   row11,
   row12,
   row13,
@@ -17,6 +19,7 @@ use Rattle.settling.specs.Figures.{
   holds,
   passedFigures,
   fullPool,
+  listingOfSchedules,
   rowWithPoints,
   rowOfKind,
   settlingFigures,
@@ -30,7 +33,7 @@ use Rattle.settling.proofs.Computing.{computing}
 
 -- the listing's data and the tables, opened
 listing : ℕ
-unfolding blockWith listingBlock openedListing ledgerWith fileWith row11 row12 row13 row14 listingPoints listingFile settledListing resultListing settles demandFile holds passedFigures fullPool rowWithPoints rowOfKind settlingFigures orderFigures leaves settledFigures computing
+unfolding blockWith listingBlock openedListing ledgerWith fileWith fileOfSchedules naming listingOfSchedules row11 row12 row13 row14 listingPoints listingFile settledListing resultListing settles demandFile holds passedFigures fullPool rowWithPoints rowOfKind settlingFigures orderFigures leaves settledFigures computing
 listing = 0
 
 -- settling the listing's file leaves its ledger and its result, to every byte
@@ -46,4 +49,5 @@ settling-ground-figures = record {
   settling-figures = refl;
   order-figures = refl;
   settled-figures = refl;
+  same-in-both = refl;
 }

@@ -154,7 +154,7 @@ module _ (l f r : List ℕ) {s : StandingValue} {h : HeaderValue} (ledger : Ledg
             rows-decide =
                 rw (terms-said, e₈, header-said, e₉, early-said, le-ltb (h .interval) (s .earliest) h₁₀, e₁₁, e₁₂)
 
-            -- a ground of the rows, 13 or 14, is answered
+            -- a ground of the rows, 13, 18 or 14, is answered
             pub later-rows : (g : ℕ) → g ≡ answered (rowGrounds f) → (g ≡ 0 → ⊥) → answered (laterGrounds l f r) ≡ g
             later-rows g e some =
                 let found = ne-eqb (answered (rowGrounds f)) 0 (λ z. some (e ∙ z)) in
@@ -196,8 +196,12 @@ unrefused l f r e =
       header = search facts depth 14;
       tables = search facts depth 14;
       ids = search facts depth 14;
-      scanned = record { in-range = search facts depth 14; points = search facts depth 14 };
-      room = search facts depth 14;
+      scanned = record {
+        in-range = search facts depth 15;
+        schedules = search facts depth 15;
+        points = search facts depth 15;
+      };
+      room = search facts depth 15;
     }
 
 -- where grounds 6 to 15 do not refuse, the values read from ledger and file are as settling relies on

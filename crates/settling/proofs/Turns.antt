@@ -11,7 +11,7 @@ use lib.Dec.{ltb, eqb}
 use Rattle.words.specs.Lists.{any, risesAbove, rises}
 use Rattle.words.proofs.Lists.{any-map, rises-rest, found-member, member-above}
 use Rattle.words.proofs.Tests.{first-holds, second-holds}
-use Rattle.reading.specs.Interval.{Row, headerOf, rowWordsAt, rowWith, curveOf, rowOf, rowsOf}
+use Rattle.reading.specs.Interval.{Row, headerOf, rowWordsAt, schedulesNamed, scheduleOf, rowWith, rowOf, rowsOf}
 use Rattle.reading.specs.Values.{rowIn}
 use Rattle.reading.specs.declared.header.Header.{Header as HeaderValue}
 use Rattle.reading.specs.declared.rows.Row.{Row as RowValue}
@@ -93,7 +93,9 @@ module _ {ledger file : List ℕ} {s : StandingValue} {h : HeaderValue} (p : Pas
     -- it keeps its bounds
     pub row-within : RowIn (rowAt file i)
     unfolding rowOf
-    row-within = sound-in (sound (p .scanned) i in-file) (curveOf file (rowWordsAt file i))
+    row-within =
+        let w = rowWordsAt file i in
+        sound-in (sound (p .scanned) i in-file) (map (scheduleOf file) (schedulesNamed file w))
 
     -- a walk finds it
     pub walk-finds : {j k : ℕ} (row : RowValue) {xs : List ℕ} → Walks ledger file i j → rowIn row ≡ rowWordsAt file i

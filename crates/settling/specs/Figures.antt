@@ -15,6 +15,19 @@ fileWith netCone days interval regionWide imports rows points =
     let header : List ℕ = 1 ∷ interval ∷ netCone ∷ days ∷ regionWide ∷ imports ∷ places in
     bytesOfWords 4 (header ++ rows ++ points)
 
+-- a file of format 2: net imports none, not region-wide; an interval, the rows' words, the points' and the schedules'
+unfoldable pub fileOfSchedules : ℕ → List ℕ → List ℕ → List ℕ → List ℕ
+fileOfSchedules interval rows points schedules =
+    let behind = 48 + 4 * length rows in
+    let places : List ℕ = (length rows / 15) ∷ 48 ∷ (length points / 2) ∷ behind ∷ [] in
+    let named : List ℕ = (length schedules / 3) ∷ (behind + 4 * length points) ∷ [] in
+    let header : List ℕ = 2 ∷ interval ∷ 30000 ∷ 365 ∷ 0 ∷ 0 ∷ places in
+    bytesOfWords 4 (header ++ named ++ rows ++ points ++ schedules)
+
+-- the words of a row in format 2: its first twelve, the first schedule, their number, and the one dispatched on
+unfoldable pub naming : List ℕ → ℕ → ℕ → ℕ → List ℕ
+naming row first count dispatched = take 12 row ++ first ∷ count ∷ dispatched ∷ []
+
 -- row 11 of the listing, 14 words
 unfoldable pub row11 : List ℕ
 row11 = 11 ∷ 0 ∷ 100000 ∷ 110000 ∷ 60000 ∷ 0 ∷ 10000 ∷ 0 ∷ 110000 ∷ 20000 ∷ 1 ∷ 3000 ∷ 0 ∷ 2 ∷ []
@@ -102,6 +115,12 @@ fullPool =
     ∷ []
     )
 
+-- the listing's file in format 2, each curve as a market schedule that its row was dispatched on
+unfoldable pub listingOfSchedules : List ℕ
+listingOfSchedules =
+    fileOfSchedules 1000 (naming row11 0 1 0 ++ naming row12 1 1 0 ++ naming row13 2 1 0 ++ naming row14 0 0 0) listingPoints
+    (1 ∷ 0 ∷ 2 ∷ 1 ∷ 2 ∷ 2 ∷ 1 ∷ 4 ∷ 2 ∷ [])
+
 -- a row of id 11 with a first point and a number of points
 unfoldable pub rowWithPoints : ℕ → ℕ → List ℕ
 rowWithPoints first count = 11 ∷ 0 ∷ 0 ∷ 0 ∷ 0 ∷ 0 ∷ 0 ∷ 0 ∷ 0 ∷ 0 ∷ 0 ∷ 0 ∷ first ∷ count ∷ []
@@ -141,6 +160,14 @@ settlingFigures =
     ∷ settles (fileWith 30000 365 1000 0 0 (rowWithPoints 0 2) (1 ∷ 1 ∷ 1 ∷ 0 ∷ [])) 320 gives 14
     ∷ settles (fileWith 30000 365 1000 0 0 (rowWithPoints 1 2) (1 ∷ 1 ∷ 1 ∷ 1 ∷ [])) 320 gives 14
     ∷ settles (fileWith 30000 365 1000 0 0 (rowWithPoints 4294967295 0) []) 320 gives 0
+    -- one schedule of one point: named, of a kind that is none, beyond the table, with too high a word 14, and without points
+    ∷ settles (fileOfSchedules 1000 (naming (rowOfKind 0) 0 1 0) (1 ∷ 1 ∷ []) (3 ∷ 0 ∷ 1 ∷ [])) 320 gives 0
+    ∷ settles (fileOfSchedules 1000 (naming (rowOfKind 0) 0 1 0) (1 ∷ 1 ∷ []) (4 ∷ 0 ∷ 1 ∷ [])) 320 gives 18
+    ∷ settles (fileOfSchedules 1000 (naming (rowOfKind 0) 1 1 0) (1 ∷ 1 ∷ []) (3 ∷ 0 ∷ 1 ∷ [])) 320 gives 18
+    ∷ settles (fileOfSchedules 1000 (naming (rowOfKind 0) 0 1 1) (1 ∷ 1 ∷ []) (3 ∷ 0 ∷ 1 ∷ [])) 320 gives 18
+    ∷ settles (fileOfSchedules 1000 (naming (rowOfKind 0) 9 0 0) (1 ∷ 1 ∷ []) (3 ∷ 0 ∷ 1 ∷ [])) 320 gives 0
+    ∷ settles (fileOfSchedules 1000 (naming (rowOfKind 0) 9 0 1) (1 ∷ 1 ∷ []) (3 ∷ 0 ∷ 1 ∷ [])) 320 gives 18
+    ∷ settles (fileOfSchedules 1000 (naming (rowOfKind 0) 0 1 0) (1 ∷ 1 ∷ []) (3 ∷ 0 ∷ 0 ∷ [])) 320 gives 14
     -- a full pool: a shortfall whose charge the limit cuts to 0, and one that is charged
     ∷ settling fullPool (demandFile 2 0) (buffer 128) .ground gives 0
     ∷ settling fullPool (demandFile 3 0) (buffer 128) .ground gives 16
@@ -158,6 +185,11 @@ orderFigures =
     ∷ settles (fileWith 30000 365 1000 0 0 (15 ∷ 6 ∷ drop 2 row14) []) 320 gives 12
     -- a first row whose points fall and a second row of kind 6: all rows are tested for 13 before any for 14
     ∷ settles (fileWith 30000 365 1000 0 0 (rowWithPoints 0 2 ++ rowOfKind 6) (1 ∷ 1 ∷ 0 ∷ 1 ∷ [])) 320 gives 13
+    -- a first row whose schedule is of no kind and a second row of kind 6: all are tested for 13 before any for 18
+    ∷ settles (fileOfSchedules 1000 (naming (rowWithPoints 0 0) 0 1 0 ++ naming (rowOfKind 6) 0 0 0) [] (4 ∷ 0 ∷ 1 ∷ [])) 320 gives 13
+    -- a first row whose schedule has no points and a second whose schedule is of no kind: and for 18 before any for 14
+    ∷ settles (fileOfSchedules 1000 (naming (rowWithPoints 0 0) 0 1 0 ++ naming (rowOfKind 0) 1 1 0) [] (1 ∷ 0 ∷ 0 ∷ 4 ∷ 0 ∷ 0 ∷ [])) 320
+    gives 18
     ∷ settles (fileWith 30000 365 1000 0 0 (rowWithPoints 0 2) (1 ∷ 1 ∷ 0 ∷ 1 ∷ [])) 127 gives 14
     ∷ settling fullPool (demandFile 3 0) (buffer 127) .ground gives 15
     ∷ []
@@ -185,3 +217,5 @@ pub record SettlingGroundFigures : Type 0 where
   pub settling-figures : AllAsStated settlingFigures
   pub order-figures : AllAsStated orderFigures
   pub settled-figures : AllAsStated settledFigures
+  -- the same content in both formats leaves the same bytes
+  pub same-in-both : settling openedListing listingOfSchedules (buffer 320) ≡ settling openedListing (listingFile 1000 0 0) (buffer 320)

@@ -1,4 +1,4 @@
--- A call of settling: grounds 6 to 16, its answer, and the ledger and the result that it leaves.
+-- A call of settling: grounds 6 to 16 and 18, its answer, and the ledger and the result that it leaves.
 use Prim.Native.Nat.{ℕ, _+_, _*_}
 use mathlib.Core.List.{List, [], _∷_, _++_, map}
 use mathlib.Core.Bool.{Bool, cond, not, _||_}
@@ -95,7 +95,7 @@ resultTooShort file result = ltb (length result) (resultBytes (headerOf file .ro
 unfoldable pub poolTooLarge : Assessed → Bool
 poolTooLarge v = ltb mostCents (pool v)
 
--- grounds 8 to 15, of a ledger and a file that hold what their formats say, in checking order
+-- grounds 8 to 15 and 18, of a ledger and a file that hold what their formats say, in checking order
 unfoldable pub laterGrounds : List ℕ → List ℕ → List ℕ → List (Bool × ℕ)
 laterGrounds ledger file result =
     (otherTerms (ledgerOf ledger .terms) (headerOf file), 8)
@@ -105,11 +105,11 @@ laterGrounds ledger file result =
     ∷ (rowIdsUnknown (ledgerOf ledger) (rowsOf file), 12)
     ∷ (rowGrounds file ++ ((resultTooShort file result, 15) ∷ []))
 
--- the grounds before the pool, 6 to 15, in checking order
+-- the grounds before the pool, 6 to 15 and 18, in checking order
 unfoldable pub groundsBeforePool : List ℕ → List ℕ → List ℕ → List (Bool × ℕ)
 groundsBeforePool ledger file result = (notALedger ledger, 6) ∷ (notAFile file, 7) ∷ laterGrounds ledger file result
 
--- grounds 6 to 16, in checking order
+-- grounds 6 to 16 and 18, in checking order
 unfoldable pub settlingGrounds : List ℕ → List ℕ → List ℕ → List (Bool × ℕ)
 settlingGrounds ledger file result =
     groundsBeforePool ledger file result ++ ((poolTooLarge (assessedFile ledger file), 16) ∷ [])

@@ -1,15 +1,15 @@
 -- What a list of grounds says of its answer.
-use Prim.Native.Nat.{ℕ, _<_, _≤_}
+use Prim.Native.Nat.{ℕ, _<_}
 use mathlib.Core.Path.{_≡_, refl}
-use mathlib.Core.Logic.{_⊎_, inl, inr, ⊎-elim}
+use mathlib.Core.Logic.{_⊎_, inl, inr}
 use mathlib.Core.List.{List, [], _∷_}
 use mathlib.Core.Bool.{Bool, true, false, cond, _||_}
 use lib.Dec.{eqb}
 use borrow.Author.Tests.{eqb-false}
 use native.Mathlib.Omega.{arith}
 use Rattle.words.specs.Lists.{any}
-use Rattle.words.specs.Grounds.{answered, outside}
-use Rattle.words.proofs.Tests.{not-first, not-second, not-outside}
+use Rattle.words.specs.Grounds.{answered}
+use Rattle.words.proofs.Tests.{not-first, not-second}
 
 -- where 0 is answered, no ground applies (no ground has the number 0)
 pub none-applies : (gs : List (Bool × ℕ)) → any (λ g. eqb (g .1) 0) gs ≡ false → answered gs ≡ 0 → any (λ g. g .0) gs ≡ false
@@ -37,9 +37,3 @@ answered-passed test (g ∷ gs) n =
         → (cond t (g .1) (answered gs) ≡ 0) ⊎ (test (cond t (g .1) (answered gs)) ≡ false)
     by true later = inr (not-first (test (g .1)) (any (λ g. test (g .1)) gs) n)
     by false later = later
-
--- so it is 0, or lies in the range that each ground's number does
-pub answered-in : (low high : ℕ) (gs : List (Bool × ℕ)) → any (λ g. outside low high (g .1)) gs ≡ false
-    → (answered gs ≡ 0) ⊎ ((low ≤ answered gs) × (answered gs ≤ high))
-answered-in low high gs n =
-    ⊎-elim inl (λ e. inr (not-outside low high (answered gs) e)) (answered-passed (outside low high) gs n)

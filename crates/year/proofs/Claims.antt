@@ -3,7 +3,7 @@ use Prim.Native.Nat.{ℕ, _*_, _^_, _<_, _≤_}
 use mathlib.Core.Path.{_≡_, refl, sym, ap, subst}
 use mathlib.Core.Logic.{_⊎_, inl, inr, ⊎-elim}
 use mathlib.Core.List.{List, [], List·Memᴰ}
-use mathlib.Core.Bool.{Bool, true, false, not, _||_}
+use mathlib.Core.Bool.{Bool, true, false, not, _||_, _&&_, true≢false}
 use native.Mathlib.Omega.{arith}
 use lib.ListN.{length, length-map, drop}
 use lib.Dec.{eqb, leb}
@@ -12,8 +12,8 @@ use Rattle.words.specs.Lists.{any}
 use Rattle.words.specs.Words.{Bytes, numberAt, word64, written, wordsIn}
 use Rattle.words.specs.Grounds.{answered, outside}
 use Rattle.words.proofs.Words.{numberAt-lt, drop-bytes, entries-all, words-back, length-written, beyond-written}
-use Rattle.words.proofs.Tests.{either}
-use Rattle.words.proofs.Grounds.{answered-passed, answered-in}
+use Rattle.words.proofs.Tests.{either, not-outside}
+use Rattle.words.proofs.Grounds.{answered-passed}
 use Rattle.reading.specs.Interval.{rowGrounds}
 use Rattle.assessment.specs.Assessment.{Account, Assessed, credit}
 use Rattle.ledger.specs.Ledger.{ledgerHeaderBytes, accountBytes, accountAt, accountCount, ledgerOf, ledgerWords}
@@ -157,11 +157,23 @@ opening-refusals block ledger = by (eqb g 0) refl
         subst (OpeningAnswers ledger) (sym (opening-refuses block ledger e))
         (record { ground = opening-ground block ledger; refused = λ h. refl; length-kept = refl })
 
--- what the grounds of settling answer is 0, or 6 to 16
+-- what the grounds of settling answer is 0, or 6 to 16, or 18
 settling-ground : (ledger file result : List ℕ)
-    → let g = answered (settlingGrounds ledger file result) in (g ≡ 0) ⊎ ((6 ≤ g) × (g ≤ 16))
+    → let g = answered (settlingGrounds ledger file result) in (g ≡ 0) ⊎ ((6 ≤ g) × ((g ≤ 16) ⊎ (g ≡ 18)))
 unfolding settlingGrounds groundsBeforePool laterGrounds rowGrounds any outside
-settling-ground ledger file result = answered-in 6 16 (settlingGrounds ledger file result) refl
+settling-ground ledger file result =
+    let g = answered (settlingGrounds ledger file result) in
+    let other : ℕ → Bool = λ n. outside 6 16 n && not (eqb n 18) in
+    ⊎-elim inl (λ e. inr (by g e)) (answered-passed other (settlingGrounds ledger file result) refl)
+  where
+    by : (n : ℕ) → (outside 6 16 n && not (eqb n 18)) ≡ false → (6 ≤ n) × ((n ≤ 16) ⊎ (n ≡ 18))
+    by n e = among (outside 6 16 n) refl (eqb n 18) refl e
+      where
+        among : (out : Bool) → outside 6 16 n ≡ out → (last : Bool) → eqb n 18 ≡ last → (out && not last) ≡ false
+            → (6 ≤ n) × ((n ≤ 16) ⊎ (n ≡ 18))
+        among out p true q z = let is = eqb-true n 18 q in (omega (arith, is), inr is)
+        among true p false q z = absurd (true≢false z)
+        among false p false q z = let inside = not-outside 6 16 n p in (inside .0, inl (inside .1))
 
 -- writing what an accepted call gives keeps both lengths
 module _ (ledger file result : List ℕ) (s : Accepted ledger file result) where

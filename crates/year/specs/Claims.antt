@@ -122,9 +122,9 @@ pub record OpeningAnswers (ledger : List ℕ) (a : OpeningAnswer) : Type 0 where
   pub refused : 0 < a .ground → a .ledger ≡ ledger
   pub length-kept : length (a .ledger) ≡ length ledger
 
--- what holds of every answer of settling: 0 or 6 to 16, a refusal changes no byte, the lengths never change
+-- what holds of every answer of settling: 0, 6 to 16 or 18, a refusal changes no byte, the lengths never change
 pub record SettlingAnswers (ledger result : List ℕ) (a : SettlingAnswer) : Type 0 where
-  pub ground : (a .ground ≡ 0) ⊎ ((6 ≤ a .ground) × (a .ground ≤ 16))
+  pub ground : (a .ground ≡ 0) ⊎ ((6 ≤ a .ground) × ((a .ground ≤ 16) ⊎ (a .ground ≡ 18)))
   pub refused : 0 < a .ground → (a .ledger ≡ ledger) × (a .result ≡ result)
   pub lengths-kept : (length (a .ledger) ≡ length ledger) × (length (a .result) ≡ length result)
 
