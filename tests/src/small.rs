@@ -3,7 +3,8 @@
 use crate::pages::small_page;
 use crate::random::{
     accepted_event, event_of_one, long_open, long_settle, open_call_for, refused_event,
-    settle_call_for, small_event, EventCall, OpenCall, Rng, RunningYear, SettleCall, SMALL,
+    settle_call_for, small_event, EventCall, OpenCall, Rng, RunningYear, SettleCall, OPENING,
+    SETTLING, SMALL,
 };
 use crate::reference;
 
@@ -71,6 +72,11 @@ impl Case {
     }
 }
 
+/// The ground of the case with this number, one after another.
+fn in_turn(grounds: &[u32], number: u64) -> u32 {
+    grounds[number as usize % grounds.len()]
+}
+
 /// So many calls of opening and settling; every fourth opens, and one in 200 has a length at a limit.
 pub fn cases(seed: u64, count: u64) -> Vec<Case> {
     let mut rng = Rng::new(seed);
@@ -80,7 +86,7 @@ pub fn cases(seed: u64, count: u64) -> Vec<Case> {
             (200, _) => Case::open(long_open(&mut rng, &SMALL)),
             (399, _) => Case::settle(long_settle(&mut rng, &SMALL)),
             (_, 0) => {
-                let ground = 1 + (index / 4 % 5) as u32;
+                let ground = in_turn(&OPENING, index / 4);
                 Case::open(open_call_for(&mut rng, &SMALL, ground))
             }
             (_, 1) => {
@@ -90,7 +96,7 @@ pub fn cases(seed: u64, count: u64) -> Vec<Case> {
                 Case::settle(year.next_call(&mut rng, &SMALL))
             }
             _ => {
-                let ground = 6 + (index / 2 % 11) as u32;
+                let ground = in_turn(&SETTLING, index / 2);
                 Case::settle(settle_call_for(&mut rng, &SMALL, ground))
             }
         })
@@ -99,7 +105,7 @@ pub fn cases(seed: u64, count: u64) -> Vec<Case> {
 
 /// The grounds on which a file is refused wherever it stands in an event; 16 needs a full pool, which events of one
 /// file have.
-const ANYWHERE: [u32; 10] = [7, 8, 9, 10, 11, 12, 13, 14, 15, 22];
+const ANYWHERE: [u32; 11] = [7, 8, 9, 10, 11, 12, 13, 18, 14, 15, 22];
 
 /// So many calls on events: by turns whole or damaged anywhere (among them accepted ones of 0 to 3
 /// files), refused at each place on each ground, and of one file.
@@ -111,10 +117,10 @@ pub fn events(seed: u64, count: u64) -> Vec<Case> {
             0 if number % 20 >= 16 => accepted_event(&mut rng, &SMALL, number % 4),
             0 => small_event(&mut rng, &SMALL, number % 20),
             1 => {
-                let ground = ANYWHERE[number as usize % ANYWHERE.len()];
+                let ground = in_turn(&ANYWHERE, number);
                 refused_event(&mut rng, &SMALL, number as usize % 3, ground)
             }
-            _ => event_of_one(&mut rng, &SMALL, 6 + (number % 11) as u32),
+            _ => event_of_one(&mut rng, &SMALL, in_turn(&SETTLING, number)),
         };
         Case::event(call)
     };

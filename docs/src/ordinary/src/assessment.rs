@@ -1,6 +1,10 @@
 //! The rules of one interval, in kW.
 
-use crate::file::{Header, Point, Row, DEMAND, EFFICIENCY, ENERGY_ONLY, GENERATION, IMPORTER, PRD};
+use crate::file::{
+    Header, Offer, Point, Row, DEMAND, EFFICIENCY, ENERGY_ONLY, GENERATION, IMPORTER, PRD,
+};
+use crate::file::{Schedule, MARKET, PLS};
+use std::ptr;
 
 /// The kW figures of a row; a row that does not count has zeros.
 #[derive(Default)]
@@ -20,7 +24,7 @@ pub struct Ratio {
 
 impl Ratio {
     /// Of all rows, with the imports of a region-wide event.
-    pub fn of(header: &Header, rows: &[Row], curves: &[&[Point]]) -> Self {
+    pub fn of(header: &Header, rows: &[Row], offers: &[Offer]) -> Self {
         let mut ratio = Ratio {
             numerator: 0,
             denominator: 0,
@@ -28,7 +32,7 @@ impl Ratio {
         if header.region_wide == 1 {
             ratio.numerator += header.imports.max(0) as u64;
         }
-        for (row, curve) in rows.iter().zip(curves) {
+        for (row, offer) in rows.iter().zip(offers) {
             let above = actual(row).saturating_sub(row.committed);
             match row.kind {
                 GENERATION => {
@@ -37,7 +41,7 @@ impl Ratio {
                 }
                 ENERGY_ONLY => ratio.numerator += actual(row),
                 DEMAND => ratio.numerator += above,
-                PRD if considered(row, curve) => ratio.numerator += above,
+                PRD if considered(row, offer) => ratio.numerator += above,
                 _ => (),
             }
         }
@@ -54,31 +58,32 @@ impl Ratio {
 }
 
 /// All kW figures of a row.
-pub fn figures(header: &Header, row: &Row, curve: &[Point], ratio: &Ratio) -> Figures {
+pub fn figures(header: &Header, row: &Row, offer: &Offer, ratio: &Ratio) -> Figures {
     match row.kind {
-        GENERATION => generator(row, curve, ratio.portion(row.committed)),
-        ENERGY_ONLY => generator(row, curve, 0),
+        GENERATION => generator(row, offer, ratio.portion(row.committed)),
+        ENERGY_ONLY => generator(row, offer, 0),
         DEMAND | EFFICIENCY => reduction(row),
-        PRD if considered(row, curve) => reduction(row),
+        PRD if considered(row, offer) => reduction(row),
         IMPORTER if header.region_wide == 1 => reduction(row),
         _ => Figures::default(),
     }
 }
 
 /// Kinds 0 and 4.
-fn generator(row: &Row, curve: &[Point], expected: u64) -> Figures {
+fn generator(row: &Row, offer: &Offer, expected: u64) -> Figures {
     let actual = actual(row);
     let outage = row.planned;
-    let scheduled = scheduled(row, curve);
     let available = row.owned.saturating_sub(row.planned + row.forced);
-    let able = row.maximum.min(expected).min(available);
-    let economic = able.saturating_sub(scheduled.max(actual));
     // a unit that sends no offer has no schedule to be held to
-    let most = if curve.is_empty() {
-        available
-    } else {
-        scheduled
+    let (highest, most) = match offer.dispatched {
+        Some(schedule) => {
+            let own = scheduled(row, offer.curve(schedule));
+            (highest_scheduled(row, offer, schedule, own), own)
+        }
+        None => (row.committed, available),
     };
+    let able = row.maximum.min(expected).min(available);
+    let economic = able.saturating_sub(highest.max(actual));
     Figures {
         expected,
         actual,
@@ -112,15 +117,32 @@ fn reached<'a>(row: &Row, curve: &'a [Point]) -> &'a [Point] {
 }
 
 /// Whether the last point that the LMP reaches has kW, which a PRD row needs to count.
-fn considered(row: &Row, curve: &[Point]) -> bool {
-    reached(row, curve).last().is_some_and(|point| point.kw > 0)
+fn considered(row: &Row, offer: &Offer) -> bool {
+    let Some(schedule) = offer.dispatched else {
+        return false;
+    };
+    let reached = reached(row, offer.curve(schedule));
+    reached.last().is_some_and(|point| point.kw > 0)
 }
 
-/// The kW that the curve schedules at the LMP.
-fn scheduled(row: &Row, curve: &[Point]) -> u64 {
-    let Some(last) = curve.last() else {
-        return row.committed;
+/// The most kW by the schedule dispatched on, which has so many of its own, and those that count beside it: all beside
+/// a market one, PLS and cost ones beside a PLS one, none beside a cost one.
+fn highest_scheduled(row: &Row, offer: &Offer, dispatched: &Schedule, own: u64) -> u64 {
+    let counts = |schedule: &&Schedule| match dispatched.kind {
+        _ if ptr::eq(*schedule, dispatched) => false,
+        MARKET => true,
+        PLS => schedule.kind != MARKET,
+        _ => false,
     };
+    let others = offer.schedules.iter().filter(counts);
+    others.fold(own, |most, schedule| {
+        most.max(scheduled(row, offer.curve(schedule)))
+    })
+}
+
+/// The kW that a curve schedules at the LMP.
+fn scheduled(row: &Row, curve: &[Point]) -> u64 {
+    let last = curve.last().expect("a schedule has points");
     if row.lmp > last.price {
         return row.maximum;
     }
