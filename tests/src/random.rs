@@ -10,7 +10,9 @@ mod world;
 mod years;
 
 pub use self::event::{event_file, four_schedules};
-pub use self::event_calls::{accepted_event, event_call, event_of_one, refused_event, small_event};
+pub use self::event_calls::{
+    accepted_event, event_call, event_of_one, refused_alone, refused_event, small_event,
+};
 pub use self::world::{rising, some_of, valid_open, valid_settle, World};
 pub use self::years::{stream, year, RunningYear, Year};
 

@@ -2,9 +2,9 @@
 
 use crate::pages::small_page;
 use crate::random::{
-    accepted_event, event_of_one, long_open, long_settle, open_call_for, refused_event,
-    settle_call_for, small_event, EventCall, OpenCall, Rng, RunningYear, SettleCall, OPENING,
-    SETTLING, SMALL,
+    accepted_event, event_of_one, long_open, long_settle, open_call_for, refused_alone,
+    refused_event, settle_call_for, small_event, EventCall, OpenCall, Rng, RunningYear, SettleCall,
+    OPENING, SETTLING, SMALL,
 };
 use crate::reference;
 
@@ -120,7 +120,10 @@ pub fn events(seed: u64, count: u64) -> Vec<Case> {
                 let ground = in_turn(&ANYWHERE, number);
                 refused_event(&mut rng, &SMALL, number as usize % 3, ground)
             }
-            _ => event_of_one(&mut rng, &SMALL, in_turn(&SETTLING, number)),
+            _ => match in_turn(&SETTLING, number) {
+                ground @ (6 | 16) => refused_alone(&mut rng, &SMALL, ground),
+                ground => event_of_one(&mut rng, &SMALL, ground),
+            },
         };
         Case::event(call)
     };

@@ -11,7 +11,7 @@ use npa_tests::random::{
     SMALL,
 };
 use npa_tests::reference::{npalist, open, settle, HEADING};
-use npa_tests::small::{events, inputs, Case};
+use npa_tests::small::{cases, events, inputs, Case};
 use std::collections::{BTreeMap, BTreeSet};
 
 /// Opens and checks which bytes changed; the answer.
@@ -410,7 +410,8 @@ fn streams_are_listed_to_some_end() {
 #[test]
 fn small_events_are_refused_on_every_ground_and_at_each_place() {
     let (mut seen, mut short) = (BTreeSet::new(), 0);
-    for case in events(1, 110) {
+    let mut formats = BTreeSet::new();
+    for case in events(1, 100) {
         let Case::Event { call, ground, left } = case else {
             panic!("a case that is no event");
         };
@@ -419,7 +420,9 @@ fn small_events_are_refused_on_every_ground_and_at_each_place() {
             assert!(call.count.len() < 8);
             short += 1;
         } else {
-            seen.insert((ground, long_at(&left.count, 0).unwrap()));
+            let settled = long_at(&left.count, 0).unwrap();
+            seen.insert((ground, settled));
+            formats.insert(formats_of(&call.files, settled as usize));
         }
     }
     let anywhere = SETTLING[1..11].iter().copied().chain([22]);
@@ -428,17 +431,40 @@ fn small_events_are_refused_on_every_ground_and_at_each_place() {
     let missing: Vec<_> = wanted.filter(|pair| !seen.contains(pair)).collect();
     assert!(missing.is_empty(), "no {missing:?}");
     assert!(short > 0, "no short count");
+    let mixed = [vec![1, 2], vec![2, 1], vec![2, 2], vec![2]];
+    assert!(
+        mixed.iter().all(|order| formats.contains(order)),
+        "{formats:?}"
+    );
+}
+
+/// The formats of the first so many blocks, each behind its length.
+fn formats_of(blocks: &[u8], count: usize) -> Vec<u32> {
+    let mut rest = blocks;
+    let mut formats = Vec::new();
+    for _ in 0..count {
+        let (block, behind) = rest[4..].split_at(word_at(rest, 0).unwrap() as usize);
+        formats.push(Format::of(block).word());
+        rest = behind;
+    }
+    formats
 }
 
 #[test]
 fn small_pages_have_every_sort_of_line() {
     let (mut seen, mut ids_cut) = (BTreeSet::new(), BTreeSet::new());
+    let mut formats = BTreeSet::new();
     for input in inputs(1, 40) {
         let length = input.bytes.len();
         assert!(length < 3_000);
         if length < 4 {
             ids_cut.insert(length);
             continue;
+        }
+        let listing = String::from_utf8(input.listing.clone()).unwrap();
+        if !listing.contains("refused") && !listing.contains("cut") {
+            let blocks = 1 + listing.matches("pool").count();
+            formats.extend(formats_of(input.stream(), blocks).split_off(1));
         }
         let page = String::from_utf8(input.page).unwrap();
         for line in page.lines().skip(1) {
@@ -455,6 +481,7 @@ fn small_pages_have_every_sort_of_line() {
         }
     }
     assert_eq!(seen.len(), 7, "{seen:?}");
+    assert_eq!(formats, BTreeSet::from([1, 2]), "formats of accepted files");
     assert_eq!(ids_cut, BTreeSet::from([0, 1, 2, 3]));
 }
 
@@ -462,4 +489,42 @@ fn small_pages_have_every_sort_of_line() {
 #[should_panic(expected = "such a case: none in 1000 attempts")]
 fn attempts_come_to_an_end() {
     first_made("such a case", || None::<u32>);
+}
+
+/// What a file is, and how a call on it ended: its format, then the ground or what it was dispatched on.
+fn outcome(file: &[u8], ground: u32) -> Vec<(u32, String)> {
+    let format = Format::of(file).word();
+    match (format, ground) {
+        (2, 0) => {
+            let kinds = dispatches(file).into_iter();
+            let dispatched = kinds.map(|dispatch| match dispatch {
+                Some((kind, _)) => format!("dispatched on {kind}"),
+                None => "no schedules".to_string(),
+            });
+            dispatched.map(|name| (format, name)).collect()
+        }
+        _ => vec![(format, format!("answer {ground}"))],
+    }
+}
+
+#[test]
+fn small_calls_have_files_of_both_formats_with_every_outcome() {
+    let mut counts: BTreeMap<(u32, String), usize> = BTreeMap::new();
+    for case in cases(1, 800) {
+        if let Case::Settle { call, ground, .. } = case {
+            for outcome in outcome(&call.file, ground) {
+                *counts.entry(outcome).or_default() += 1;
+            }
+        }
+    }
+    let dispatched = (1..=3).map(|kind| (2, format!("dispatched on {kind}")));
+    let accepted = dispatched.chain([(1, "answer 0".to_string()), (2, "no schedules".to_string())]);
+    let refused = SETTLING
+        .iter()
+        .flat_map(|ground| [1, 2].map(|format| (format, format!("answer {ground}"))));
+    let wanted = accepted.chain(refused.filter(|outcome| *outcome != (1, "answer 18".to_string())));
+    let missing: Vec<_> = wanted
+        .filter(|outcome| !counts.contains_key(outcome))
+        .collect();
+    assert!(missing.is_empty(), "no {missing:?} in {counts:?}");
 }

@@ -4,7 +4,6 @@ use crate::file::{
     Header, Offer, Point, Row, DEMAND, EFFICIENCY, ENERGY_ONLY, GENERATION, IMPORTER, PRD,
 };
 use crate::file::{Schedule, MARKET, PLS};
-use std::ptr;
 
 /// The kW figures of a row; a row that does not count has zeros.
 #[derive(Default)]
@@ -41,7 +40,7 @@ impl Ratio {
                 }
                 ENERGY_ONLY => ratio.numerator += actual(row),
                 DEMAND => ratio.numerator += above,
-                PRD if considered(row, offer) => ratio.numerator += above,
+                PRD if considered(row, offer.curve) => ratio.numerator += above,
                 _ => (),
             }
         }
@@ -58,29 +57,34 @@ impl Ratio {
 }
 
 /// All kW figures of a row.
-pub fn figures(header: &Header, row: &Row, offer: &Offer, ratio: &Ratio) -> Figures {
+pub fn figures(
+    header: &Header,
+    row: &Row,
+    offer: &Offer,
+    points: &[Point],
+    ratio: &Ratio,
+) -> Figures {
     match row.kind {
-        GENERATION => generator(row, offer, ratio.portion(row.committed)),
-        ENERGY_ONLY => generator(row, offer, 0),
+        GENERATION => generator(row, offer, points, ratio.portion(row.committed)),
+        ENERGY_ONLY => generator(row, offer, points, 0),
         DEMAND | EFFICIENCY => reduction(row),
-        PRD if considered(row, offer) => reduction(row),
+        PRD if considered(row, offer.curve) => reduction(row),
         IMPORTER if header.region_wide == 1 => reduction(row),
         _ => Figures::default(),
     }
 }
 
 /// Kinds 0 and 4.
-fn generator(row: &Row, offer: &Offer, expected: u64) -> Figures {
+fn generator(row: &Row, offer: &Offer, points: &[Point], expected: u64) -> Figures {
     let actual = actual(row);
     let outage = row.planned;
     let available = row.owned.saturating_sub(row.planned + row.forced);
     // a unit that sends no offer has no schedule to be held to
-    let (highest, most) = match offer.dispatched {
-        Some(schedule) => {
-            let own = scheduled(row, offer.curve(schedule));
-            (highest_scheduled(row, offer, schedule, own), own)
-        }
-        None => (row.committed, available),
+    let (highest, most) = if offer.curve.is_empty() {
+        (row.committed, available)
+    } else {
+        let own = scheduled(row, offer.curve);
+        (highest_scheduled(row, offer, points, own), own)
     };
     let able = row.maximum.min(expected).min(available);
     let economic = able.saturating_sub(highest.max(actual));
@@ -117,27 +121,29 @@ fn reached<'a>(row: &Row, curve: &'a [Point]) -> &'a [Point] {
 }
 
 /// Whether the last point that the LMP reaches has kW, which a PRD row needs to count.
-fn considered(row: &Row, offer: &Offer) -> bool {
-    let Some(schedule) = offer.dispatched else {
-        return false;
-    };
-    let reached = reached(row, offer.curve(schedule));
-    reached.last().is_some_and(|point| point.kw > 0)
+fn considered(row: &Row, curve: &[Point]) -> bool {
+    reached(row, curve).last().is_some_and(|point| point.kw > 0)
 }
 
 /// The most kW by the schedule dispatched on, which has so many of its own, and those that count beside it: all beside
 /// a market one, PLS and cost ones beside a PLS one, none beside a cost one.
-fn highest_scheduled(row: &Row, offer: &Offer, dispatched: &Schedule, own: u64) -> u64 {
-    let counts = |schedule: &&Schedule| match dispatched.kind {
-        _ if ptr::eq(*schedule, dispatched) => false,
+fn highest_scheduled(row: &Row, offer: &Offer, points: &[Point], own: u64) -> u64 {
+    let mut highest = own;
+    let dispatched = row.dispatched as usize;
+    for (number, schedule) in offer.schedules.iter().enumerate() {
+        if number != dispatched && counts(schedule, &offer.schedules[dispatched]) {
+            highest = highest.max(scheduled(row, schedule.curve(points)));
+        }
+    }
+    highest
+}
+
+fn counts(schedule: &Schedule, dispatched: &Schedule) -> bool {
+    match dispatched.kind {
         MARKET => true,
         PLS => schedule.kind != MARKET,
         _ => false,
-    };
-    let others = offer.schedules.iter().filter(counts);
-    others.fold(own, |most, schedule| {
-        most.max(scheduled(row, offer.curve(schedule)))
-    })
+    }
 }
 
 /// The kW that a curve schedules at the LMP.

@@ -1,6 +1,4 @@
 //! The interval file of either format, and the grounds that it alone decides: 7, 9, 11, 13, 18 and 14.
-//!
-//! A row of format 1 with points is one that names a market schedule with these points, on which it was dispatched.
 
 use crate::terms::Terms;
 use crate::words::words32;
@@ -9,8 +7,8 @@ use std::ops::Range;
 pub const ROWS_MOST: usize = 512;
 const POINTS_MOST: usize = 2048;
 const SCHEDULES_MOST: usize = 1024;
-const ROW_SCHEDULES_MOST: usize = 4;
-const SCHEDULE_POINTS_MOST: usize = 10;
+const ROW_SCHEDULES_MOST: u32 = 4;
+const CURVE_POINTS_MOST: u32 = 10;
 pub const KW_MOST: u64 = 4_000_000;
 const IMPORTS_MOST: i64 = 40_000_000;
 const PRICE_MOST: i64 = 1_000_000;
@@ -78,15 +76,15 @@ pub struct Row {
     pub minimum: u64,
     pub online: u32,
     pub lmp: i64,
-    first: usize,
-    count: usize,
-    dispatched: usize,
+    first: u32,
+    count: u32,
+    pub dispatched: u32,
 }
 
 pub struct Schedule {
     pub kind: u32,
-    first: usize,
-    count: usize,
+    first: u32,
+    count: u32,
 }
 
 pub struct Point {
@@ -97,22 +95,15 @@ pub struct Point {
 /// All entries of a file, named by rows or not.
 pub struct Tables {
     pub rows: Vec<Row>,
-    schedules: Vec<Schedule>,
-    points: Vec<Point>,
+    pub points: Vec<Point>,
+    /// Of format 2 alone; rows of format 1 name points.
+    schedules: Option<Vec<Schedule>>,
 }
 
-/// The schedules that a row names.
+/// What a row names: the curve on which it was dispatched, and in format 2 all its schedules. Both may be empty.
 pub struct Offer<'a> {
+    pub curve: &'a [Point],
     pub schedules: &'a [Schedule],
-    /// The one on which it was dispatched.
-    pub dispatched: Option<&'a Schedule>,
-    points: &'a [Point],
-}
-
-impl Offer<'_> {
-    pub fn curve(&self, schedule: &Schedule) -> &[Point] {
-        &self.points[schedule.first..schedule.first + schedule.count]
-    }
 }
 
 impl Header {
@@ -179,35 +170,17 @@ impl Header {
 
     fn read_tables(&self, rows: &[u8], points: &[u8], schedules: &[u8]) -> Tables {
         let rows = rows.chunks_exact(self.format.row_bytes);
-        let (rows, schedules) = if self.format.row_bytes == FORMAT_1.row_bytes {
-            market_schedules(rows.map(Row::read).collect())
-        } else {
-            let schedules = schedules.chunks_exact(SCHEDULE_BYTES);
-            (
-                rows.map(Row::read_2).collect(),
-                schedules.map(Schedule::read).collect(),
-            )
-        };
+        let schedules = schedules.chunks_exact(SCHEDULE_BYTES);
+        let two = self.format.row_bytes == FORMAT_2.row_bytes;
         Tables {
-            rows,
-            schedules,
+            rows: match two {
+                true => rows.map(Row::read_2).collect(),
+                false => rows.map(Row::read).collect(),
+            },
             points: points.chunks_exact(POINT_BYTES).map(Point::read).collect(),
+            schedules: two.then(|| schedules.map(Schedule::read).collect()),
         }
     }
-}
-
-/// The rows of format 1, each with points naming a market schedule of its own, and these schedules.
-fn market_schedules(mut rows: Vec<Row>) -> (Vec<Row>, Vec<Schedule>) {
-    let mut schedules = Vec::with_capacity(rows.len());
-    for row in rows.iter_mut().filter(|row| row.count > 0) {
-        schedules.push(Schedule {
-            kind: MARKET,
-            first: row.first,
-            count: row.count,
-        });
-        (row.first, row.count) = (schedules.len() - 1, 1);
-    }
-    (rows, schedules)
 }
 
 impl Table {
@@ -232,27 +205,19 @@ fn apart(one: &Range<usize>, other: &Range<usize>) -> bool {
 impl Tables {
     /// Ground 18 for every row.
     pub fn schedules_hold(&self) -> bool {
-        self.rows
-            .iter()
-            .all(|row| row.schedules_hold(&self.schedules))
-    }
-
-    /// What each row offers, if the points of every schedule that it names hold.
-    pub fn offers(&self) -> Option<Vec<Offer<'_>>> {
-        self.rows.iter().map(|row| self.offer(row)).collect()
-    }
-
-    fn offer(&self, row: &Row) -> Option<Offer<'_>> {
-        let schedules = row.named(&self.schedules)?;
-        let offer = Offer {
-            schedules,
-            dispatched: schedules.get(row.dispatched),
-            points: &self.points,
+        let Some(schedules) = &self.schedules else {
+            return true;
         };
-        schedules
-            .iter()
-            .all(|schedule| schedule.holds(&self.points))
-            .then_some(offer)
+        self.rows.iter().all(|row| row.schedules_hold(schedules))
+    }
+
+    /// What each row offers, if its points hold, or those of every schedule that it names.
+    pub fn offers(&self) -> Option<Vec<Offer<'_>>> {
+        let rows = self.rows.iter();
+        match &self.schedules {
+            Some(schedules) => rows.map(|row| row.offer(schedules, &self.points)).collect(),
+            None => rows.map(|row| row.offer_of_points(&self.points)).collect(),
+        }
     }
 }
 
@@ -276,8 +241,8 @@ impl Row {
             minimum: words[9].into(),
             online: words[10],
             lmp: signed(words[11]),
-            first: words[12] as usize,
-            count: words[13] as usize,
+            first: words[12],
+            count: words[13],
             dispatched: 0,
         }
     }
@@ -286,7 +251,7 @@ impl Row {
     fn read_2(bytes: &[u8]) -> Self {
         let [dispatched] = words32(&bytes[FORMAT_1.row_bytes..]);
         Row {
-            dispatched: dispatched as usize,
+            dispatched,
             ..Row::read(bytes)
         }
     }
@@ -311,11 +276,39 @@ impl Row {
             && (self.kind < ENERGY_ONLY || self.committed == 0)
     }
 
+    /// What a row of format 1 offers, if its points hold.
+    fn offer_of_points<'a>(&self, points: &'a [Point]) -> Option<Offer<'a>> {
+        let curve = match self.count {
+            0 => &[][..],
+            _ => curve(points, self.first, self.count)?,
+        };
+        Some(Offer {
+            curve,
+            schedules: &[],
+        })
+    }
+
+    /// What a row of format 2 offers, if the points of all its schedules hold.
+    fn offer<'a>(&self, schedules: &'a [Schedule], points: &'a [Point]) -> Option<Offer<'a>> {
+        let schedules = self.named(schedules)?;
+        let mut dispatched = &[][..];
+        for (number, schedule) in schedules.iter().enumerate() {
+            let curve = curve(points, schedule.first, schedule.count)?;
+            if number == self.dispatched as usize {
+                dispatched = curve;
+            }
+        }
+        Some(Offer {
+            curve: dispatched,
+            schedules,
+        })
+    }
+
     /// The schedules that it names, if they are in the table.
     fn named<'a>(&self, schedules: &'a [Schedule]) -> Option<&'a [Schedule]> {
         match self.count {
             0 => Some(&[]),
-            _ => schedules.get(self.first..self.first + self.count),
+            _ => schedules.get(stretch(self.first, self.count)),
         }
     }
 
@@ -329,28 +322,33 @@ impl Row {
     }
 }
 
+/// The places of so many entries from a first one.
+fn stretch(first: u32, count: u32) -> Range<usize> {
+    first as usize..first as usize + count as usize
+}
+
+/// So many points from a first one, if they are some and few, in the table and in range, and do not fall.
+fn curve(points: &[Point], first: u32, count: u32) -> Option<&[Point]> {
+    if !(1..=CURVE_POINTS_MOST).contains(&count) {
+        return None;
+    }
+    let curve = points.get(stretch(first, count))?;
+    let holds = curve.iter().all(Point::holds)
+        && curve
+            .windows(2)
+            .all(|pair| pair[0].price <= pair[1].price && pair[0].kw <= pair[1].kw);
+    holds.then_some(curve)
+}
+
 impl Schedule {
     fn read(bytes: &[u8]) -> Self {
         let [kind, first, count] = words32(bytes);
-        Schedule {
-            kind,
-            first: first as usize,
-            count: count as usize,
-        }
+        Schedule { kind, first, count }
     }
 
-    /// Its points are some and few, in the table and in range, and do not fall.
-    fn holds(&self, points: &[Point]) -> bool {
-        if !(1..=SCHEDULE_POINTS_MOST).contains(&self.count) {
-            return false;
-        }
-        let Some(curve) = points.get(self.first..self.first + self.count) else {
-            return false;
-        };
-        curve.iter().all(Point::holds)
-            && curve
-                .windows(2)
-                .all(|pair| pair[0].price <= pair[1].price && pair[0].kw <= pair[1].kw)
+    /// Its points in the table, once they are known to hold.
+    pub fn curve<'a>(&self, points: &'a [Point]) -> &'a [Point] {
+        &points[stretch(self.first, self.count)]
     }
 }
 

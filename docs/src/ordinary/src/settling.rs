@@ -37,7 +37,7 @@ fn try_settle(ledger_bytes: &mut [u8], file: &[u8], result: &mut [u8]) -> Result
     let figures: Vec<Figures> = rows
         .iter()
         .zip(&offers)
-        .map(|(row, offer)| figures(&header, row, offer, &ratio))
+        .map(|(row, offer)| figures(&header, row, offer, &tables.points, &ratio))
         .collect();
     let charges = charge(&mut ledger, &places, rows, &figures);
     let charged: u64 = charges.iter().sum();
