@@ -1,6 +1,7 @@
 /*
  * Settles the file of document 01's listing from C and looks at every word of ledger and result; then the same
- * file again, buffers that are too short, a file to refuse on each other ground, and one with an importer.
+ * file again, buffers that are too short, a file to refuse on each other ground, one with an importer, and ledgers
+ * of other years.
  * Fails at the first difference and says what it is; else it says nothing. It is C99 and C++11.
  */
 #include "npa.h"
@@ -43,7 +44,7 @@ static const uint64_t RESULT[8 + 8 * ROWS] = {
 };
 
 static const uint64_t LEDGER[8 + 4 * IDS] = {
-    /* format, Net CONE, days, earliest interval, carried, accounts and their offset, 0 */
+    /* format, Net CONE, days, earliest interval, carried, accounts and their offset, no year */
     1, 30000, 365, 1001, 1, IDS, 8, 0,
     /* id, largest commitment, charged, credited */
     11, 100000, 0, 0,
@@ -218,6 +219,88 @@ static void refuse_word(const struct refusal *refusal)
     free(ledger);
 }
 
+/* The word of a ledger with its year. */
+#define YEAR 7
+
+/* Settles the listing's file in a year, of which the ledger keeps the word; plant 12 is charged so many cents. */
+static void settle_year(uint64_t year, uint64_t charge)
+{
+    uint8_t *ledger = opened(30000, 365);
+    uint8_t *file = bytes_of(LISTING, FILE_LEN);
+    uint8_t *result = buffer(RESULT_LEN);
+
+    put_word(ledger, YEAR, year);
+    hold("answer in the year", (size_t)year,
+         npa_settle(ledger, LEDGER_LEN, file, FILE_LEN, result, RESULT_LEN), NPA_OK);
+    hold("charge in the year", (size_t)year, word(result, 8 + 8 + 6), charge);
+    hold("charges of the account in the year", (size_t)year, word(ledger, 8 + 4 + 2), charge);
+    hold("year kept", (size_t)year, word(ledger, YEAR), year);
+    free(ledger);
+    free(file);
+    free(result);
+}
+
+/* Settles in each year that there is, and refuses others, also those that are right in the lower half of the word. */
+static void years(void)
+{
+    static const uint64_t OTHERS[] = {
+        1, 2015, 2017, 2024, 65536 + 2016, UINT64_C(1) << 32, (UINT64_C(1) << 32) + 2016, (UINT64_C(1) << 63) + 2018,
+    };
+    uint32_t words[FILE_WORDS];
+    uint8_t *ledger;
+    uint64_t year;
+    size_t i;
+
+    settle_year(0, 557629);
+    settle_year(2016, 278814);
+    for (year = 2018; year <= 2023; year++) {
+        settle_year(year, 557629);
+    }
+    for (i = 0; i < sizeof OTHERS / sizeof OTHERS[0]; i++) {
+        ledger = opened(30000, 365);
+        put_word(ledger, YEAR, OTHERS[i]);
+        refuse(ledger, LISTING, NPA_REFUSED_LEDGER);
+        free(ledger);
+    }
+    memcpy(words, LISTING, sizeof words);
+    words[NPA_FILE_DAYS] = 366;
+    ledger = opened(30000, 366);
+    put_word(ledger, YEAR, 2016);
+    refuse(ledger, words, NPA_REFUSED_LEDGER);
+    free(ledger);
+}
+
+/* Settles the listing's file into a ledger in which plant 12 has reached its limit; its charge is nothing. */
+static void hold_at_limit(uint8_t *ledger, uint64_t limit)
+{
+    uint8_t *file = bytes_of(LISTING, FILE_LEN);
+    uint8_t *result = buffer(RESULT_LEN);
+
+    hold("answer at the limit", 0, npa_settle(ledger, LEDGER_LEN, file, FILE_LEN, result, RESULT_LEN), NPA_OK);
+    hold("shortfall at the limit", 0, word(result, 8 + 8 + 4), 18333);
+    hold("charge at the limit", 0, word(result, 8 + 8 + 6), 0);
+    hold("charges of the account at the limit", 0, word(ledger, 8 + 4 + 2), limit);
+    free(file);
+    free(result);
+}
+
+/* Plant 12 is at its limit of 2016 for 50000 kW, or a cent above. */
+static void limit_of_2016(void)
+{
+    const uint64_t limit = 410625000;
+    uint8_t *ledger = opened(30000, 365);
+
+    put_word(ledger, YEAR, 2016);
+    put_word(ledger, 8 + 4 + 1, 50000);
+    put_word(ledger, 8 + 4 + 2, limit + 1);
+    put_word(ledger, 4, limit + 1);
+    refuse(ledger, LISTING, NPA_REFUSED_LEDGER);
+    put_word(ledger, 8 + 4 + 2, limit);
+    put_word(ledger, 4, limit);
+    hold_at_limit(ledger, limit);
+    free(ledger);
+}
+
 /* Refuses the listing where as much is carried as may be, and its charges would be added. */
 static void refuse_pool(void)
 {
@@ -254,5 +337,7 @@ int main(void)
     refuse_pool();
     settle_importer(0);
     settle_importer(1);
+    years();
+    limit_of_2016();
     return 0;
 }

@@ -4,8 +4,9 @@
 //! them against what is really there. What does not fit is not written.
 //! Sizes and limits stand here once; the reference has its own.
 
-/// The bytes of an opening block before any ids, of a point and of a schedule.
+/// The bytes of an opening block before any ids, without and with a year, of a point and of a schedule.
 pub const OPENING_BYTES: usize = 20;
+pub const YEAR_OPENING_BYTES: usize = 24;
 pub const POINT_BYTES: usize = 8;
 pub const SCHEDULE_BYTES: usize = 12;
 
@@ -41,8 +42,13 @@ pub const CREDITED_MOST: u64 = 224_870_400_000_000;
 /// The intervals of a day.
 pub const DAY_INTERVALS: u32 = 288;
 
-/// What kW times Net CONE times days is divided by for a charge in cents.
-pub const CHARGE_DIVISOR: u64 = 360_000;
+/// The formats of an opening block, without and with a year.
+pub const PLAIN_FORMAT: u32 = 1;
+pub const YEAR_FORMAT: u32 = 2;
+
+/// The year that is charged half, and all years that a block can name.
+pub const HALVED_YEAR: u32 = 2016;
+pub const YEARS: [u32; 7] = [HALVED_YEAR, 2018, 2019, 2020, 2021, 2022, 2023];
 
 /// The ledger bytes of so many accounts.
 pub fn ledger_bytes(accounts: usize) -> usize {
@@ -54,16 +60,62 @@ pub fn result_bytes(rows: usize) -> usize {
     64 + 64 * rows
 }
 
-/// The most cents that an account may be charged for a commitment.
-pub fn limit(net_cone: u64, days: u64, commitment: u64) -> u64 {
-    (3 * u128::from(net_cone) * u128::from(days) * u128::from(commitment) / 2000) as u64
+/// The terms of a delivery year, and the calendar year in which it starts, 0 where none is named.
+#[derive(Clone, Copy, Debug, Default, PartialEq)]
+pub struct Terms {
+    pub net_cone: u64,
+    pub days: u64,
+    pub year: u64,
 }
 
-/// The cents of a shortfall before any limit: the nearest, the upper ones at half a cent.
-pub fn full_charge(net_cone: u64, days: u64, shortfall: u64) -> u64 {
-    let parts = u128::from(net_cone) * u128::from(days) * u128::from(shortfall);
-    let divisor = u128::from(CHARGE_DIVISOR);
-    ((2 * parts + divisor) / (2 * divisor)) as u64
+impl Terms {
+    /// Those of an opening block, if it has its words.
+    pub fn of_opening(block: &[u8]) -> Option<Self> {
+        let word = |index: usize| word_at(block, 4 * index).map(u64::from);
+        Some(Terms {
+            net_cone: word(1)?,
+            days: word(2)?,
+            year: match word_at(block, 0)? {
+                YEAR_FORMAT => word(5)?,
+                _ => 0,
+            },
+        })
+    }
+
+    /// Those of a ledger, if it has its words.
+    pub fn of_ledger(ledger: &[u8]) -> Option<Self> {
+        Some(Terms {
+            net_cone: long_at(ledger, 1)?,
+            days: long_at(ledger, 2)?,
+            year: long_at(ledger, 7)?,
+        })
+    }
+
+    /// How much less is charged, and may be, than in other years.
+    fn part(&self) -> u64 {
+        1 + u64::from(self.year == u64::from(HALVED_YEAR))
+    }
+
+    /// What kW times Net CONE times days is divided by for a charge in cents.
+    pub fn charge_divisor(&self) -> u64 {
+        360_000 * self.part()
+    }
+
+    /// So many kW times Net CONE times days.
+    fn parts(&self, kw: u64) -> u128 {
+        u128::from(self.net_cone) * u128::from(self.days) * u128::from(kw)
+    }
+
+    /// The most cents that an account may be charged for a commitment.
+    pub fn limit(&self, commitment: u64) -> u64 {
+        (3 * self.parts(commitment) / u128::from(2_000 * self.part())) as u64
+    }
+
+    /// The cents of a shortfall before any limit: the nearest, the upper ones at half a cent.
+    pub fn full_charge(&self, shortfall: u64) -> u64 {
+        let divisor = u128::from(self.charge_divisor());
+        ((2 * self.parts(shortfall) + divisor) / (2 * divisor)) as u64
+    }
 }
 
 /// Writes bytes at an offset, as far as the buffer reaches.
@@ -111,22 +163,47 @@ pub fn hex<'a>(bytes: impl IntoIterator<Item = &'a u8>) -> String {
 #[derive(Clone, Debug)]
 pub struct Opening {
     pub words: [u32; 5],
+    /// Word 5, if there is one.
+    pub year: Option<u32>,
     pub ids: Vec<u32>,
     pub ids_at: usize,
     pub length: usize,
 }
 
 impl Opening {
-    /// A block with the ids right behind the first words.
+    /// A block without a year, with the ids right behind the first words.
     pub fn new(net_cone: u32, days: u32, ids: &[u32]) -> Self {
         let mut opening = Opening {
-            words: [1, net_cone, days, ids.len() as u32, 0],
+            words: [PLAIN_FORMAT, net_cone, days, ids.len() as u32, 0],
+            year: None,
             ids: ids.to_vec(),
             ids_at: 0,
             length: 0,
         };
-        opening.place(OPENING_BYTES, 0);
+        opening.place(opening.front(), 0);
         opening
+    }
+
+    /// A block with this year, and the ids right behind it.
+    pub fn of_year(year: u32, net_cone: u32, days: u32, ids: &[u32]) -> Self {
+        let mut opening = Opening::new(net_cone, days, ids);
+        opening.name_year(year);
+        opening.place(opening.front(), 0);
+        opening
+    }
+
+    /// Names a year, wherever the ids are.
+    pub fn name_year(&mut self, year: u32) {
+        self.words[0] = YEAR_FORMAT;
+        self.year = Some(year);
+    }
+
+    /// The bytes of the first words.
+    pub fn front(&self) -> usize {
+        match self.year {
+            None => OPENING_BYTES,
+            Some(_) => YEAR_OPENING_BYTES,
+        }
     }
 
     /// Puts the ids at an offset and leaves a gap behind them.
@@ -145,6 +222,7 @@ impl Opening {
     pub fn over(&self, mut buffer: Vec<u8>) -> Vec<u8> {
         put_words(&mut buffer, self.ids_at, &self.ids);
         put_words(&mut buffer, 0, &self.words);
+        put_words(&mut buffer, OPENING_BYTES, self.year.as_slice());
         buffer
     }
 }
@@ -158,13 +236,23 @@ pub struct Ledger {
 }
 
 impl Ledger {
-    /// A ledger as opening leaves it.
+    /// A ledger as opening leaves it, without a year.
     pub fn new(net_cone: u32, days: u32, ids: &[u32]) -> Self {
         let count = ids.len() as u64;
         Ledger {
             words: [1, net_cone.into(), days.into(), 0, 0, count, 8, 0],
             accounts: ids.iter().map(|id| [u64::from(*id), 0, 0, 0]).collect(),
             length: ledger_bytes(ids.len()),
+        }
+    }
+
+    /// The terms that its words give.
+    pub fn terms(&self) -> Terms {
+        let [_, net_cone, days, .., year] = self.words;
+        Terms {
+            net_cone,
+            days,
+            year,
         }
     }
 

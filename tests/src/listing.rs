@@ -16,6 +16,11 @@ pub fn opening() -> Opening {
     Opening::new(NET_CONE, DAYS, &IDS)
 }
 
+/// The opening block with a year.
+pub fn opening_of(year: u32) -> Opening {
+    Opening::of_year(year, NET_CONE, DAYS, &IDS)
+}
+
 /// The four rows.
 fn rows() -> [Row; 4] {
     [

@@ -1,7 +1,7 @@
 //! Inputs for the program npapage, and a page made a second way: out of the whole listing.
 
 use crate::layout::{
-    limit, push_block, row_at, stream_of, word_at, IntervalFile, Opening, Row, FILE_MOST, IDS_MOST,
+    push_block, row_at, stream_of, word_at, IntervalFile, Opening, Row, Terms, FILE_MOST, IDS_MOST,
     KW_MOST,
 };
 use crate::listing::{DAYS, NET_CONE};
@@ -27,9 +27,8 @@ pub fn from_listing(input: &[u8]) -> Vec<u8> {
         return format!("{HEADING}refused,0,17\n").into_bytes();
     }
     let (lines, [shortfall, bonus, charged, credited]) = shown(&listing, id);
-    let word = |at| u64::from(word_at(stream, at).expect("an accepted opening has its words"));
-    let largest = largest_commitment(stream, &listing, id);
-    let limit = limit(word(8), word(12), largest.into());
+    let terms = Terms::of_opening(&stream[4..]).expect("an accepted opening has its words");
+    let limit = terms.limit(largest_commitment(stream, &listing, id).into());
     let year = format!("year,{id},{shortfall},{bonus},{charged},{credited},{limit}\n");
     [HEADING, &lines, &year].concat().into_bytes()
 }
@@ -238,9 +237,22 @@ fn file(net_cone: u32, days: u32, interval: u32, rows: &[Row]) -> Vec<u8> {
     IntervalFile::new(net_cone, days, interval, rows, Vec::new()).bytes()
 }
 
-/// A stream of files with these intervals and rows, for plants 1, 2 and 3.
+/// The plants of a year below.
+const PLANTS: [u32; 3] = [1, 2, 3];
+
+/// A stream of files with these intervals and rows.
 fn year(name: &str, files: &[(u32, Vec<Row>)]) -> Case {
-    let mut stream = stream_of(&[&Opening::new(NET_CONE, DAYS, &[1, 2, 3]).bytes()]);
+    opened_by(&Opening::new(NET_CONE, DAYS, &PLANTS), name, files)
+}
+
+/// The same, with an opening that names this year.
+fn named_year(start: u32, name: &str, files: &[(u32, Vec<Row>)]) -> Case {
+    let opening = Opening::of_year(start, NET_CONE, DAYS, &PLANTS);
+    opened_by(&opening, &format!("{name}, in {start}"), files)
+}
+
+fn opened_by(opening: &Opening, name: &str, files: &[(u32, Vec<Row>)]) -> Case {
+    let mut stream = stream_of(&[&opening.bytes()]);
     for (interval, rows) in files {
         push_block(&mut stream, &file(NET_CONE, DAYS, *interval, rows));
     }
@@ -305,23 +317,31 @@ pub fn limits() -> Vec<Case> {
     vec![
         year("a limit that is reached", &reached),
         year("a limit that is reached and raised", &raised),
-        large_sums(),
+        large_sums("sums above 32 bits", &Opening::new(200_000, 366, &[1, 2])),
+        named_year(2016, "a limit that is reached", &reached),
+        named_year(2016, "a limit that is reached and raised", &raised),
+        named_year(2018, "a limit that is reached", &reached),
+        large_sums(
+            "sums above 32 bits, in 2016",
+            &Opening::of_year(2016, 200_000, 365, &[1, 2]),
+        ),
     ]
 }
 
 /// Sums of kW above 32 bits, and plant 1 at the largest limit.
-fn large_sums() -> Case {
+fn large_sums(name: &str, opening: &Opening) -> Case {
     let most = KW_MOST as i32;
     let credited = Row {
         adjustment: most,
         ..demand(2, 0, most)
     };
-    let mut stream = stream_of(&[&Opening::new(200_000, 366, &[1, 2]).bytes()]);
+    let [_, net_cone, days, ..] = opening.words;
+    let mut stream = stream_of(&[&opening.bytes()]);
     for interval in 0..1_100 {
         let rows = [demand(1, KW_MOST, 0), credited];
-        push_block(&mut stream, &file(200_000, 366, interval, &rows));
+        push_block(&mut stream, &file(net_cone, days, interval, &rows));
     }
-    Case::new("sums above 32 bits", stream)
+    Case::new(name, stream)
 }
 
 /// Ids whose digits begin each other, in intervals of the same numbers.

@@ -114,7 +114,7 @@ pub fn first_made<T>(what: &str, mut attempt: impl FnMut() -> Option<T>) -> T {
 /// How large cases may get.
 #[derive(Clone, Copy, Debug)]
 pub struct Size {
-    /// Most ids of a year, at least 3.
+    /// Most ids of a year, at least 6.
     ids: usize,
     /// Most rows of a file.
     rows: usize,
@@ -258,12 +258,12 @@ impl SettleCase {
 // ---------------------------------------------------------------- any case
 
 /// The grounds of opening and of settling, in checking order.
-pub const OPENING: [u32; 5] = [1, 2, 3, 4, 5];
-pub const SETTLING: [u32; 12] = [6, 7, 8, 9, 10, 11, 12, 13, 18, 14, 15, 16];
+pub const OPENING_GROUNDS: [u32; 6] = [1, 2, 23, 3, 4, 5];
+pub const SETTLING_GROUNDS: [u32; 12] = [6, 7, 8, 9, 10, 11, 12, 13, 18, 14, 15, 16];
 
 /// An opening with faults of two grounds, to test the order.
 fn doubly_damaged_open(rng: &mut Rng, size: &Size) -> OpenCase {
-    let (first, second) = two_grounds(rng, &OPENING);
+    let (first, second) = two_grounds(rng, &OPENING_GROUNDS);
     let case = valid_open(rng, size);
     let case = refused_open(rng, size, case, second);
     refused_open(rng, size, case, first)
@@ -271,20 +271,18 @@ fn doubly_damaged_open(rng: &mut Rng, size: &Size) -> OpenCase {
 
 /// A settling with faults of two grounds, to test the order.
 fn doubly_damaged_settle(rng: &mut Rng, size: &Size) -> SettleCase {
-    let (first, second) = two_grounds(rng, &SETTLING);
+    let (first, second) = two_grounds(rng, &SETTLING_GROUNDS);
     let case = valid_settle(rng, size);
     let case = refused_settle(rng, size, case, second);
     refused_settle(rng, size, case, first)
 }
 
-/// Two grounds in checking order, often neighbours.
+/// Two of the grounds in checking order, often neighbours.
 fn two_grounds(rng: &mut Rng, grounds: &[u32]) -> (u32, u32) {
     let first = rng.index(grounds.len() - 1);
-    let second = first + 1 + rng.index(grounds.len() - first - 1);
-    (
-        grounds[first],
-        rng.pick(&[grounds[first + 1], grounds[second]]),
-    )
+    let later = &grounds[first + 1..];
+    let second = rng.pick(later);
+    (grounds[first], rng.pick(&[later[0], second]))
 }
 
 /// Damages an opening until this ground is answered, or gives up.
@@ -339,7 +337,7 @@ pub fn scramble(rng: &mut Rng, buffer: &mut [u8]) {
 
 /// A call to opening of any sort, from valid to random bytes.
 pub fn open_call(rng: &mut Rng, size: &Size) -> OpenCall {
-    let ground = rng.pick(&OPENING);
+    let ground = rng.pick(&OPENING_GROUNDS);
     open_call_for(rng, size, ground)
 }
 
@@ -363,7 +361,7 @@ pub fn open_call_for(rng: &mut Rng, size: &Size, ground: u32) -> OpenCall {
 
 /// A call to settling of any sort, from valid to random bytes.
 pub fn settle_call(rng: &mut Rng, size: &Size) -> SettleCall {
-    let ground = rng.pick(&SETTLING);
+    let ground = rng.pick(&SETTLING_GROUNDS);
     settle_call_for(rng, size, ground)
 }
 
@@ -401,6 +399,13 @@ pub fn long_settle(rng: &mut Rng, size: &Size) -> SettleCall {
     let mut case = valid_settle(rng, size);
     let own = case.file.format.most();
     case.file.length = rng.pick(&[own, own, own + 1, FILE_MOST, FILE_MOST + 1]);
+    case.call(rng)
+}
+
+/// A settling into a ledger of a year that there is not.
+pub fn settle_in_no_year(rng: &mut Rng, size: &Size) -> SettleCall {
+    let mut case = valid_settle(rng, size);
+    case.ledger.words[7] = rng.pick(&[1, 2015, 2017, 2024, 2016 << 32]);
     case.call(rng)
 }
 

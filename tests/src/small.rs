@@ -3,8 +3,8 @@
 use crate::pages::small_page;
 use crate::random::{
     accepted_event, event_of_one, long_open, long_settle, open_call_for, refused_alone,
-    refused_event, settle_call_for, small_event, EventCall, OpenCall, Rng, RunningYear, SettleCall,
-    OPENING, SETTLING, SMALL,
+    refused_event, settle_call_for, settle_in_no_year, small_event, EventCall, OpenCall, Rng,
+    RunningYear, SettleCall, OPENING_GROUNDS, SETTLING_GROUNDS, SMALL,
 };
 use crate::reference;
 
@@ -77,7 +77,8 @@ fn in_turn(grounds: &[u32], number: u64) -> u32 {
     grounds[number as usize % grounds.len()]
 }
 
-/// So many calls of opening and settling; every fourth opens, and one in 200 has a length at a limit.
+/// So many calls of opening and settling; every fourth opens, one in 200 has a length at a limit, and one in 400 a ledger
+/// of no year.
 pub fn cases(seed: u64, count: u64) -> Vec<Case> {
     let mut rng = Rng::new(seed);
     let mut year = RunningYear::open(&mut rng, &SMALL);
@@ -85,8 +86,9 @@ pub fn cases(seed: u64, count: u64) -> Vec<Case> {
         .map(|index| match (index % 400, index % 4) {
             (200, _) => Case::open(long_open(&mut rng, &SMALL)),
             (399, _) => Case::settle(long_settle(&mut rng, &SMALL)),
+            (101, _) => Case::settle(settle_in_no_year(&mut rng, &SMALL)),
             (_, 0) => {
-                let ground = in_turn(&OPENING, index / 4);
+                let ground = in_turn(&OPENING_GROUNDS, index / 4);
                 Case::open(open_call_for(&mut rng, &SMALL, ground))
             }
             (_, 1) => {
@@ -96,7 +98,7 @@ pub fn cases(seed: u64, count: u64) -> Vec<Case> {
                 Case::settle(year.next_call(&mut rng, &SMALL))
             }
             _ => {
-                let ground = in_turn(&SETTLING, index / 2);
+                let ground = in_turn(&SETTLING_GROUNDS, index / 2);
                 Case::settle(settle_call_for(&mut rng, &SMALL, ground))
             }
         })
@@ -120,7 +122,7 @@ pub fn events(seed: u64, count: u64) -> Vec<Case> {
                 let ground = in_turn(&ANYWHERE, number);
                 refused_event(&mut rng, &SMALL, number as usize % 3, ground)
             }
-            _ => match in_turn(&SETTLING, number) {
+            _ => match in_turn(&SETTLING_GROUNDS, number) {
                 ground @ (6 | 16) => refused_alone(&mut rng, &SMALL, ground),
                 ground => event_of_one(&mut rng, &SMALL, ground),
             },

@@ -1,13 +1,13 @@
 //! Streams for the listing program: whole, refused at every ground, cut everywhere, at every limit, and long.
 
 use crate::layout::{
-    ledger_bytes, push_block, result_bytes, stream_of, Format, IntervalFile, Ledger, Opening, Row,
+    ledger_bytes, push_block, result_bytes, stream_of, Format, IntervalFile, Opening, Row,
     BLOCK_MOST, DAY_INTERVALS, FILE_MOST, IDS_MOST, KW_MOST, POINTS_MOST, ROWS_MOST,
 };
 use crate::listing;
 use crate::random::{
     self, damage_settle, damaged_open, first_made, four_schedules, Rng, SettleCase, World, FULL,
-    MIDDLE, SETTLING, SMALL,
+    MIDDLE, SETTLING_GROUNDS, SMALL,
 };
 use crate::reference::{npalist, open};
 
@@ -55,7 +55,7 @@ pub fn prefixes() -> Vec<Case> {
 pub fn refused_openings(rng: &mut Rng, each: usize) -> Vec<Case> {
     let file = listing::file(1000).bytes();
     let mut cases = Vec::new();
-    for ground in 1..=4 {
+    for ground in [1, 2, 23, 3, 4] {
         for number in 0..each {
             let name = format!("opening refused by {ground}, number {number}");
             let block = first_made(&name, || {
@@ -72,7 +72,7 @@ pub fn refused_openings(rng: &mut Rng, each: usize) -> Vec<Case> {
 /// Files that each ground refuses, so many of each, between two accepted ones.
 pub fn refused_files(rng: &mut Rng, each: usize) -> Vec<Case> {
     let mut cases = Vec::new();
-    let listed = SETTLING
+    let listed = SETTLING_GROUNDS
         .iter()
         .filter(|ground| ![6, 15, 16].contains(*ground));
     for ground in listed.copied() {
@@ -91,7 +91,7 @@ fn refused_in_the_middle(rng: &mut Rng, ground: u32) -> Vec<u8> {
         let world = World::any(rng, &MIDDLE);
         let [first, last] = [10, 12].map(|interval| world.file(rng, &MIDDLE, interval).bytes());
         let mut case = SettleCase {
-            ledger: Ledger::new(world.net_cone, world.days, &world.ids),
+            ledger: world.opened(),
             file: world.file(rng, &MIDDLE, 11),
             result_length: result_bytes(ROWS_MOST),
         };
@@ -135,14 +135,17 @@ fn full_pool() -> Vec<u8> {
 /// Blocks with lengths at, below and over each limit: whole, cut behind the length, and cut inside.
 pub fn lengths() -> Vec<Case> {
     let far = [1 << 16, 1 << 24, 1 << 31, u32::MAX];
-    let openings = [0, 1, 19, 20, 35, 36, 37, 4095, 4096, 4097, 49_152, 61_440];
+    let openings = [
+        0, 1, 19, 20, 23, 24, 35, 36, 37, 39, 40, 41, 4095, 4096, 4097, 49_152, 61_440,
+    ];
     let files = [
         0, 1, 3, 4, 39, 40, 41, 47, 48, 49, 311, 312, 313, 371, 372, 373,
     ];
     let limits = [49_151, 49_152, 49_153, 61_439, 61_440, 61_441];
     let mut cases = Vec::new();
     for length in openings.into_iter().chain(far) {
-        cases.extend(openings_of(length));
+        cases.extend(openings_of(&listing::opening(), length));
+        cases.extend(openings_of(&listing::opening_of(2016), length));
     }
     for length in files.into_iter().chain(limits).chain(far) {
         cases.extend(
@@ -151,25 +154,29 @@ pub fn lengths() -> Vec<Case> {
                 .flat_map(|format| files_of(format, length)),
         );
     }
-    cases.push(Case::new("limits reached", at_the_limits()));
+    for year in [0, 2016] {
+        let name = format!("limits reached, year {year}");
+        cases.push(Case::new(name, at_the_limits(year)));
+    }
     cases
 }
 
 /// Blocks one byte over each limit, whose lengths end a listing.
 pub fn too_long() -> Vec<Case> {
-    let mut cases = openings_of(BLOCK_MOST as u32 + 1);
+    let mut cases = openings_of(&listing::opening(), BLOCK_MOST as u32 + 1);
     for format in Format::BOTH {
         cases.extend(files_of(format, FILE_MOST as u32 + 1));
     }
     cases
 }
 
-/// The opening of document 01 with this length.
-fn openings_of(length: u32) -> Vec<Case> {
-    let mut opening = listing::opening();
-    let files = &two_intervals()[4 + opening.length..];
+/// An opening with this length, before the files of document 01's.
+fn openings_of(opening: &Opening, length: u32) -> Vec<Case> {
+    let mut opening = opening.clone();
+    let files = &two_intervals()[4 + listing::opening().length..];
     opening.length = length.min(100_000) as usize;
-    at_length("opening", &[], &opening.bytes(), length, files)
+    let name = format!("opening of format {}", opening.words[0]);
+    at_length(&name, &[], &opening.bytes(), length, files)
 }
 
 /// The file of document 01 in this format with this length, behind two and before one that have their own.
@@ -200,9 +207,10 @@ fn at_length(name: &str, before: &[u8], block: &[u8], length: u32, behind: &[u8]
 
 /// The longest opening with the most ids, and the longest file of each format with the most rows and points, each point
 /// of some row, and the most schedules.
-fn at_the_limits() -> Vec<u8> {
-    let world = World::full();
-    let mut opening = Opening::new(world.net_cone, world.days, &world.ids);
+fn at_the_limits(year: u32) -> Vec<u8> {
+    let mut world = World::full();
+    world.year = year;
+    let mut opening = world.block();
     opening.place(BLOCK_MOST - 4 * IDS_MOST, 0);
     let mut rng = Rng::new(1);
     let mut file = world.full_file(&mut rng, 0, ROW_POINTS);
@@ -240,7 +248,7 @@ fn full_files(count: u32) -> Vec<Vec<u8>> {
 /// The full year with so many of its files.
 pub fn full_intervals(count: u32) -> Vec<u8> {
     let world = World::full();
-    let mut stream = stream_of(&[&Opening::new(world.net_cone, world.days, &world.ids).bytes()]);
+    let mut stream = stream_of(&[&world.block().bytes()]);
     for file in full_files(count) {
         push_block(&mut stream, &file);
     }

@@ -1,6 +1,6 @@
 //! The sums of a year, as document 01 takes them from the results of accepted calls.
 
-use crate::layout::{self, long_at, put_longs, result_bytes, row_at, word_at};
+use crate::layout::{long_at, put_longs, result_bytes, row_at, word_at, Terms};
 use std::collections::BTreeMap;
 
 /// An accepted call: its file and the bytes around it.
@@ -41,6 +41,8 @@ struct Plant {
 /// The sums of a year so far.
 #[derive(Default)]
 pub struct Sums {
+    /// Of the opening block.
+    terms: Terms,
     /// By the ids of the opening block.
     plants: BTreeMap<u32, Plant>,
     pub charges: u128,
@@ -57,17 +59,6 @@ fn word(bytes: &[u8], word: usize) -> u128 {
 /// A 32-bit word of a block or file.
 fn short_word(bytes: &[u8], at: usize) -> u32 {
     word_at(bytes, at).expect("the word is there")
-}
-
-/// Net CONE and days of a ledger.
-fn terms(ledger: &[u8]) -> [u64; 2] {
-    [1, 2].map(|term| long_at(ledger, term).expect("the word is there"))
-}
-
-/// The limit by the ledger's terms.
-fn limit(ledger: &[u8], commitment: u32) -> u128 {
-    let [net_cone, days] = terms(ledger);
-    layout::limit(net_cone, days, commitment.into()).into()
 }
 
 /// Says what does not hold.
@@ -108,13 +99,6 @@ impl Accepted<'_> {
         (0..count).map(row).collect()
     }
 
-    /// The full charge of a shortfall.
-    fn full_charge(&self, shortfall: u128) -> u128 {
-        let [net_cone, days] = terms(self.ledger);
-        let shortfall = shortfall.try_into().expect("a shortfall is one word");
-        layout::full_charge(net_cone, days, shortfall).into()
-    }
-
     /// Holds the interval's words and the cents carried to the sums over its rows.
     fn interval_holds(&self, rows: &[GivenRow]) -> Result<(), String> {
         let sum = |figure: fn(&GivenRow) -> u128| rows.iter().map(figure).sum::<u128>();
@@ -146,6 +130,7 @@ impl Sums {
         let ids_at = short_word(block, 16) as usize;
         let plant = |index: usize| (short_word(block, ids_at + 4 * index), Plant::default());
         Sums {
+            terms: Terms::of_opening(block).expect("the words are there"),
             plants: (0..short_word(block, 12) as usize).map(plant).collect(),
             ..Sums::default()
         }
@@ -185,14 +170,15 @@ impl Sums {
     fn add_rows(&mut self, call: &Accepted) -> Result<(), String> {
         let rows = call.rows();
         for row in &rows {
-            self.add_row(call, row)?;
+            self.add_row(row)?;
         }
         call.interval_holds(&rows)
     }
 
     /// Adds one row to its plant.
-    fn add_row(&mut self, call: &Accepted, row: &GivenRow) -> Result<(), String> {
-        let full = call.full_charge(row.shortfall);
+    fn add_row(&mut self, row: &GivenRow) -> Result<(), String> {
+        let shortfall = row.shortfall.try_into().expect("a shortfall is one word");
+        let full = u128::from(self.terms.full_charge(shortfall));
         hold(row.charge <= full, "a charge above the full one")?;
         hold(
             row.shortfall == 0 || row.bonus == 0,
@@ -204,7 +190,7 @@ impl Sums {
         plant.commitment = plant.commitment.max(row.committed);
         plant.charges += row.charge;
         plant.credits += row.credit;
-        let most = limit(call.ledger, plant.commitment);
+        let most = self.terms.limit(plant.commitment.into()).into();
         hold(plant.charges <= most, "a plant above its limit")?;
         hold(
             row.charge == full || plant.charges == most,

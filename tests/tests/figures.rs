@@ -1051,3 +1051,259 @@ fn the_largest_ledger_has_the_largest_credit() {
     ledger.accounts[100][3] += 1;
     assert_eq!(settled(&ledger, &file).0, 6);
 }
+
+// ---------------------------------------------------------------- years
+
+/// A ledger with one account as opened, of a year with this number.
+fn ledger_of(year: u64, net_cone: u32, days: u32) -> Ledger {
+    let mut ledger = Ledger::new(net_cone, days, &[1]);
+    ledger.words[7] = year;
+    ledger
+}
+
+/// A file of a demand resource that gives nothing of this commitment.
+fn short_file(net_cone: u32, days: u32, committed: u32) -> IntervalFile {
+    let row = Row {
+        id: 1,
+        kind: 1,
+        committed,
+        ..Row::default()
+    };
+    IntervalFile::new(net_cone, days, 0, vec![row.words()], vec![])
+}
+
+/// The cents that so many kW short cost in a year.
+fn cost(year: u64, net_cone: u32, days: u32, short: u32) -> u64 {
+    let ledger = ledger_of(year, net_cone, days);
+    let (ground, rows, _) = settled(&ledger, &short_file(net_cone, days, short));
+    assert_eq!((ground, rows[0][4]), (0, short.into()));
+    rows[0][6]
+}
+
+#[test]
+fn a_charge_of_2016_is_half() {
+    assert_eq!(cost(2016, NET_CONE, DAYS, 1_000), 15_208);
+    assert_eq!(cost(2016, 1, DAYS, 986), 0);
+    assert_eq!(cost(2016, 1, DAYS, 987), 1);
+    // Half a cent exactly, and what halves of cents rounded before would make.
+    assert_eq!(cost(2016, 36, DAYS, 2_000), 37);
+    assert_eq!(cost(2016, 36, DAYS, 1_000), 18);
+    assert_eq!(cost(2016, 1, DAYS, 494), 0);
+    assert_eq!(cost(2016, 200_000, DAYS, 4_000_000), 405_555_556);
+    for year in [0, 2018, 2019, 2020, 2021, 2022, 2023] {
+        assert_eq!(cost(year, NET_CONE, DAYS, 1_000), 30_417, "{year}");
+        assert_eq!(cost(year, 1, DAYS, 493), 0, "{year}");
+        assert_eq!(cost(year, 1, DAYS, 494), 1, "{year}");
+        assert_eq!(cost(year, 200_000, 366, 4_000_000), 813_333_333, "{year}");
+    }
+}
+
+#[test]
+fn a_limit_of_2016_is_half() {
+    let charged = |year, days, commitment, cents| {
+        let mut ledger = ledger_of(year, NET_CONE, days);
+        ledger.accounts[0] = [1, commitment, cents, 0];
+        ledger.words[4] = cents;
+        let (ground, rows, _) = settled(&ledger, &short_file(NET_CONE, days, 1));
+        (ground == 0).then(|| rows[0][6])
+    };
+    // 15 cents for a kW, as far as the limit leaves them.
+    for (left, cents) in [(16, 15), (15, 15), (14, 14), (0, 0)] {
+        assert_eq!(charged(2016, DAYS, 1_000, 8_212_500 - left), Some(cents));
+    }
+    assert_eq!(charged(2016, DAYS, 1_000, 8_212_501), None);
+    assert_eq!(charged(2016, DAYS, 1, 8_212), Some(0));
+    assert_eq!(charged(2016, DAYS, 1, 8_213), None);
+    for year in [0, 2018, 2023] {
+        assert_eq!(charged(year, DAYS, 1_000, 16_425_000), Some(0), "{year}");
+        assert_eq!(charged(year, DAYS, 1_000, 16_425_001), None, "{year}");
+        assert_eq!(charged(year, 366, 1_000, 16_470_000), Some(0), "{year}");
+    }
+}
+
+#[test]
+fn years_of_a_ledger() {
+    let answer = |year, days| {
+        let file = short_file(NET_CONE, days, 1);
+        settled(&ledger_of(year, NET_CONE, days), &file).0
+    };
+    for days in [365, 366] {
+        for year in [0, 2018, 2019, 2020, 2021, 2022, 2023] {
+            assert_eq!(answer(year, days), 0, "{year}");
+        }
+        for year in [1, 2, 2015, 2017, 2024, u64::from(u32::MAX), 1 << 63] {
+            assert_eq!(answer(year, days), 6, "{year}");
+        }
+        for high in [1 << 32, 1 << 63] {
+            for year in [0, 2016, 2018, 2023] {
+                assert_eq!(answer(high + year, days), 6, "{year}");
+            }
+        }
+    }
+    assert_eq!(answer(2016, 365), 0);
+    assert_eq!(answer(2016, 366), 6);
+}
+
+#[test]
+fn a_ledger_of_2016_keeps_its_bound_of_credits() {
+    let ids: Vec<u32> = (1..=512).collect();
+    let mut ledger = Ledger::new(200_000, DAYS, &ids);
+    ledger.words[7] = 2016;
+    for account in &mut ledger.accounts {
+        (account[1], account[2]) = (4_000_000, 219_000_000_000);
+    }
+    ledger.accounts[100][3] = 512 * 219_000_000_000;
+    let file = short_file(200_000, DAYS, 4_000_000);
+    assert_eq!(settled(&ledger, &file).0, 0);
+    ledger.accounts[100][3] += 1;
+    assert_eq!(settled(&ledger, &file).0, 6);
+}
+
+/// The answer to an opening with room for the largest ledger, and word 7 of what it leaves.
+fn opened(opening: &Opening) -> (u32, u64) {
+    let mut ledger = vec![0xaa; ledger_bytes(512)];
+    let ground = open(&opening.bytes(), &mut ledger);
+    (ground, long_at(&ledger, 7).unwrap())
+}
+
+#[test]
+fn years_of_an_opening() {
+    let unwritten = 0xaaaa_aaaa_aaaa_aaaa;
+    let of_year = |year, days| opened(&Opening::of_year(year, NET_CONE, days, &[1]));
+    for days in [365, 366] {
+        for year in 2018..=2023 {
+            assert_eq!(of_year(year, days), (0, year.into()), "{year}");
+        }
+        for year in [0, 1, 2015, 2017, 2024, 65_536 + 2016, u32::MAX] {
+            assert_eq!(of_year(year, days), (23, unwritten), "{year}");
+        }
+    }
+    assert_eq!(of_year(2016, 365), (0, 2016));
+    assert_eq!(of_year(2016, 366), (23, unwritten));
+    assert_eq!(opened(&Opening::new(NET_CONE, DAYS, &[1])), (0, 0));
+}
+
+#[test]
+fn an_opened_ledger_has_format_1_and_its_year() {
+    let mut ledger = vec![0xaa; ledger_bytes(4)];
+    let block = listing::opening_of(2016).bytes();
+    assert_eq!(open(&block, &mut ledger), 0);
+    let mut expected = Ledger::new(NET_CONE, DAYS, &IDS);
+    expected.words[7] = 2016;
+    assert_eq!(ledger, expected.bytes());
+    assert_eq!(expected.words[0], 1);
+}
+
+#[test]
+fn a_year_is_tested_between_terms_and_ids() {
+    let mut opening = Opening::of_year(2017, 0, DAYS, &[1]);
+    assert_eq!(opened(&opening).0, 2);
+    opening.words[1] = NET_CONE;
+    assert_eq!(opened(&opening).0, 23);
+    opening.words[2] = 367;
+    assert_eq!(opened(&opening).0, 2);
+    assert_eq!(opened(&Opening::of_year(2017, NET_CONE, DAYS, &[])).0, 23);
+    assert_eq!(opened(&Opening::of_year(2018, NET_CONE, DAYS, &[])).0, 3);
+    let falling = |year| opened(&Opening::of_year(year, NET_CONE, DAYS, &[2, 1])).0;
+    assert_eq!((falling(0), falling(2018)), (23, 4));
+    for (year, ground) in [(2017, 23), (2018, 5)] {
+        let block = Opening::of_year(year, NET_CONE, DAYS, &[1]).bytes();
+        assert_eq!(open(&block, &mut [0; 95]), ground);
+    }
+}
+
+#[test]
+fn lengths_of_an_opening_with_a_year() {
+    // Without ids, so that a block that is long enough is refused on 3.
+    for format in [1, 2] {
+        let mut opening = Opening::of_year(2016, NET_CONE, DAYS, &[]);
+        opening.words[0] = format;
+        for length in (0..=40).chain([4_095, 4_096, 4_097]) {
+            opening.length = length;
+            let least = if format == 1 { 20 } else { 24 };
+            let ground = if (least..=4_096).contains(&length) {
+                3
+            } else {
+                1
+            };
+            assert_eq!(
+                opened(&opening).0,
+                ground,
+                "format {format}, {length} bytes"
+            );
+        }
+    }
+    for format in [0, 3, 257, 258, 0x0100_0002, u32::MAX] {
+        let mut opening = Opening::of_year(2016, NET_CONE, DAYS, &[1]);
+        opening.words[0] = format;
+        assert_eq!(opened(&opening).0, 1, "format {format}");
+    }
+}
+
+#[test]
+fn ids_begin_behind_the_year() {
+    for ids_at in 16..=28 {
+        for (format, least) in [(1, 20), (2, 24)] {
+            let mut opening = Opening::of_year(2016, NET_CONE, DAYS, &[1, 2]);
+            opening.words[0] = format;
+            opening.place(ids_at, 0);
+            opening.words[4] = ids_at as u32;
+            let ground = opened(&opening).0;
+            match ids_at < least {
+                true => assert_eq!(ground, 3, "format {format}, ids at {ids_at}"),
+                false => assert_ne!(ground, 3, "format {format}, ids at {ids_at}"),
+            }
+        }
+    }
+    let mut opening = Opening::of_year(2016, NET_CONE, DAYS, &[1, 2]);
+    for ids_at in 24..=28 {
+        opening.place(ids_at, 0);
+        assert_eq!(opened(&opening), (0, 2016), "{ids_at}");
+        opening.length -= 1;
+        assert_eq!(opened(&opening).0, 3, "{ids_at}, cut");
+    }
+    // In format 1 the same bytes are ids or a gap.
+    let mut opening = Opening::new(NET_CONE, DAYS, &[2017, 2018]);
+    assert_eq!(opened(&opening), (0, 0));
+    opening.place(24, 0);
+    opening.year = Some(2017);
+    assert_eq!(opened(&opening), (0, 0));
+}
+
+#[test]
+fn a_year_has_no_part_in_ground_8() {
+    let file = listing::file(1_000).bytes();
+    for year in [0, 2016, 2018] {
+        let mut ledger = Ledger::new(NET_CONE, DAYS, &IDS);
+        ledger.words[7] = year;
+        let mut bytes = ledger.bytes();
+        assert_eq!(settle(&mut bytes, &file, &mut [0; 320]), 0);
+        assert_eq!(long_at(&bytes, 7), Some(year));
+        ledger.words[2] = 366;
+        let ground = if year == 2016 { 6 } else { 8 };
+        assert_eq!(settle(&mut ledger.bytes(), &file, &mut [0; 320]), ground);
+    }
+}
+
+#[test]
+fn the_listing_of_2016() {
+    let stream = stream_of(&[
+        &listing::opening_of(2016).bytes(),
+        &listing::file(1_000).bytes(),
+    ]);
+    // 18333 kW cost 278814.375 cents.
+    let lines = "\
+1000,11,86667,60000,10000,26667,0,0,0,0
+1000,12,43333,25000,0,0,18333,0,278814,0
+1000,13,0,35000,0,0,0,30000,0,209105
+1000,14,5000,15001,0,0,0,10001,0,69708
+pool,1000,866673,278814,278813,1
+";
+    assert_eq!(listed(&stream), lines);
+    let later = listing::opening_of(2021).bytes();
+    let stream = stream_of(&[&later, &listing::file(1_000).bytes()]);
+    assert_eq!(listed(&stream), EXAMPLE_LINES);
+    let none = listing::opening_of(2017).bytes();
+    let stream = stream_of(&[&none, &listing::file(1_000).bytes()]);
+    assert_eq!(listed(&stream), "refused,0,23\n");
+}

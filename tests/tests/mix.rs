@@ -1,24 +1,24 @@
 //! Random calls: no panic, nothing written on refusal, and a wide mix.
 
 use npa_tests::layout::{
-    full_charge, ledger_bytes, long_at, put_words, result_bytes, row_at, word_at, Format, Ledger,
-    CHARGE_DIVISOR, POINTS_MOST, SCHEDULE_BYTES,
+    ledger_bytes, long_at, put_longs, put_words, result_bytes, row_at, word_at, Format, Ledger,
+    Terms, HALVED_YEAR, POINTS_MOST, SCHEDULE_BYTES, YEARS, YEAR_FORMAT, YEAR_OPENING_BYTES,
 };
 use npa_tests::listing::{DAYS, NET_CONE};
 use npa_tests::random::{
     event_file, first_made, long_open, long_settle, open_call, rising, settle_call, stream,
-    valid_settle, OpenCall, Rng, RunningYear, SettleCall, Size, FULL, MIDDLE, OPENING, SETTLING,
-    SMALL,
+    valid_settle, OpenCall, Rng, RunningYear, SettleCall, Size, FULL, MIDDLE, OPENING_GROUNDS,
+    SETTLING_GROUNDS, SMALL,
 };
 use npa_tests::reference::{npalist, open, settle, HEADING};
-use npa_tests::small::{cases, events, inputs, Case};
+use npa_tests::small::{cases, events, inputs, Case, Input};
 use std::collections::{BTreeMap, BTreeSet};
 
 /// Opens and checks which bytes changed; the answer.
 fn checked_open(call: &OpenCall) -> u32 {
     let mut ledger = call.ledger.clone();
     let ground = open(&call.block, &mut ledger);
-    assert!(ground == 0 || OPENING.contains(&ground));
+    assert!(ground == 0 || OPENING_GROUNDS.contains(&ground));
     if ground == 0 {
         let end = ledger_bytes(long_at(&ledger, 5).unwrap() as usize);
         assert_eq!(ledger[end..], call.ledger[end..]);
@@ -33,7 +33,7 @@ fn checked_settle(call: &SettleCall) -> (u32, Vec<u8>) {
     let mut ledger = call.ledger.clone();
     let mut result = call.result.clone();
     let ground = settle(&mut ledger, &call.file, &mut result);
-    assert!(ground == 0 || SETTLING.contains(&ground));
+    assert!(ground == 0 || SETTLING_GROUNDS.contains(&ground));
     if ground == 0 {
         let end = ledger_bytes(long_at(&ledger, 5).unwrap() as usize);
         assert_eq!(ledger[end..], call.ledger[end..]);
@@ -73,13 +73,14 @@ fn every_ground_is_met_in_every_size() {
     let mut rng = Rng::new(5);
     for (size, calls) in [(SMALL, 4_000), (MIDDLE, 2_000), (FULL, 1_000)] {
         let opened = opening_grounds(&mut rng, &size, calls);
-        assert!(
-            opened.keys().eq([&[0], &OPENING[..]].concat().iter()),
-            "{opened:?} in {size:?}"
-        );
+        let missing: Vec<_> = OPENING_GROUNDS
+            .iter()
+            .filter(|ground| !opened.contains_key(*ground))
+            .collect();
+        assert!(missing.is_empty(), "no {missing:?} in {size:?}");
         let settled = settling_grounds(&mut rng, &size, calls);
         for format in Format::BOTH {
-            for ground in [0].into_iter().chain(SETTLING) {
+            for ground in [0].into_iter().chain(SETTLING_GROUNDS) {
                 let wanted = settled.contains_key(&(format.word(), ground));
                 assert_ne!(
                     wanted,
@@ -99,6 +100,153 @@ fn every_ground_is_met_in_every_size() {
             "{accepted:?}"
         );
     }
+}
+
+/// Names of what an opening shows of years.
+fn year_features(call: &OpenCall, ground: u32) -> Vec<String> {
+    let word = |index: usize| word_at(&call.block, 4 * index).unwrap_or(0);
+    let (days, ids_at, year) = (word(2), word(4) as usize, word(5));
+    if word(0) != YEAR_FORMAT {
+        return match ground {
+            0 => vec!["accepted without a year".to_string()],
+            _ => Vec::new(),
+        };
+    }
+    let mut other = call.clone();
+    put_words(&mut other.block, 20, &[2018]);
+    let otherwise = open(&other.block, &mut other.ledger);
+    match ground {
+        0 => vec![format!("accepted in {year} with {days} days")],
+        1 if (20..YEAR_OPENING_BYTES).contains(&call.block.len()) => {
+            vec!["too short for a year".to_string()]
+        }
+        3 if (20..YEAR_OPENING_BYTES).contains(&ids_at) => vec!["ids in the year".to_string()],
+        23 => vec![
+            format!("{year} with {days} days refused"),
+            format!("year before {otherwise}"),
+        ],
+        _ => Vec::new(),
+    }
+}
+
+/// What openings must show of years.
+fn wanted_of_openings() -> BTreeSet<String> {
+    let texts = [
+        "accepted without a year",
+        "accepted in 2016 with 365 days",
+        "2016 with 366 days refused",
+        "too short for a year",
+        "ids in the year",
+        "year before 0",
+        "year before 3",
+        "year before 4",
+        "year before 5",
+    ];
+    let of_days = [365, 366].into_iter().flat_map(|days| {
+        let accepted = YEARS[1..].iter();
+        let accepted = accepted.map(move |year| format!("accepted in {year} with {days} days"));
+        let refused = [0, 2015, 2017, 2024];
+        accepted.chain(refused.map(|year| format!("{year} with {days} days refused")))
+    });
+    texts
+        .map(str::to_string)
+        .into_iter()
+        .chain(of_days)
+        .collect()
+}
+
+#[test]
+fn openings_show_every_year() {
+    for (size, calls) in [(SMALL, 4_000), (MIDDLE, 4_000), (FULL, 4_000)] {
+        let mut rng = Rng::new(11);
+        let mut seen = BTreeSet::new();
+        for _ in 0..calls {
+            let call = open_call(&mut rng, &size);
+            seen.extend(year_features(&call, checked_open(&call)));
+        }
+        let missing: Vec<_> = wanted_of_openings().difference(&seen).cloned().collect();
+        assert!(missing.is_empty(), "{size:?}: no {missing:?}");
+    }
+}
+
+/// The year for which a settling gets 6: without one it gets something else.
+fn refused_year(call: &SettleCall, ground: u32) -> Option<u64> {
+    let mut other = call.clone();
+    put_longs(&mut other.ledger, 56, &[0]);
+    let otherwise = settle(&mut other.ledger, &other.file, &mut other.result);
+    long_at(&call.ledger, 7).filter(|_| ground == 6 && otherwise != 6)
+}
+
+#[test]
+fn ledgers_show_every_year() {
+    for size in [SMALL, MIDDLE] {
+        let mut rng = Rng::new(12);
+        let (mut accepted, mut refused) = (BTreeSet::new(), BTreeSet::new());
+        let (mut by_days, mut by_limit) = (0, 0);
+        for _ in 0..24_000 {
+            let call = settle_call(&mut rng, &size);
+            let (ground, _) = checked_settle(&call);
+            if ground == 0 {
+                accepted.extend(long_at(&call.ledger, 7));
+            }
+            match (refused_year(&call, ground), long_at(&call.ledger, 2)) {
+                (Some(2016), Some(366)) => by_days += 1,
+                (Some(2016), _) => by_limit += 1,
+                // Whether it is one of the upper half of the bits, and the lower half.
+                (Some(year), _) => _ = refused.insert((year >> 32 > 0, year as u32)),
+                _ => (),
+            }
+        }
+        assert!(accepted
+            .into_iter()
+            .eq([0].into_iter().chain(YEARS.map(u64::from))));
+        let high = [0, 2016, 2018].map(|year| (true, year));
+        let low = [1, 2015, 2017, 2024].map(|year| (false, year));
+        for year in high.into_iter().chain(low) {
+            assert!(refused.contains(&year), "{year:?} in {size:?}");
+        }
+        assert!(by_days > 0 && by_limit > 0, "{by_days}, {by_limit}");
+    }
+}
+
+/// What `tests/definitions` computes has openings and ledgers with a year among it.
+#[test]
+fn small_calls_show_years() {
+    let mut counts: BTreeMap<&str, usize> = BTreeMap::new();
+    for case in cases(1, 400) {
+        let name = match &case {
+            Case::Open { call, ground, .. } => match (word_at(&call.block, 0), ground) {
+                (Some(YEAR_FORMAT), 0) => "opened",
+                (_, 23) => "year refused",
+                _ => continue,
+            },
+            Case::Settle {
+                call,
+                ground,
+                result,
+                ..
+            } => match long_at(&call.ledger, 7) {
+                Some(2016) if *ground == 0 && long_at(result, 1) > Some(0) => "charged in 2016",
+                Some(2018..=2023) if *ground == 0 => "settled in a later year",
+                _ if refused_year(call, *ground).is_some() => "refused for its year",
+                _ => continue,
+            },
+            Case::Event { .. } => continue,
+        };
+        *counts.entry(name).or_default() += 1;
+    }
+    assert_eq!(counts.len(), 5, "{counts:?}");
+    let in_2016 = |case: &Case| match case {
+        Case::Event { call, ground, .. } => *ground == 0 && long_at(&call.ledger, 7) == Some(2016),
+        _ => false,
+    };
+    assert!(events(1, 100).iter().any(in_2016));
+    let page_of_2016 = |input: &Input| {
+        let opening = input.stream().get(4..).unwrap_or_default();
+        let terms = Terms::of_opening(opening).unwrap_or_default();
+        terms.year == 2016 && input.page.windows(6).any(|line| line == b"\nyear,")
+    };
+    assert!(inputs(1, 40).iter().any(page_of_2016));
 }
 
 #[test]
@@ -147,7 +295,8 @@ fn features(call: &SettleCall, result: &[u8]) -> Vec<&'static str> {
     };
     let at = |offset: usize| word_at(&call.file, offset).unwrap();
     let interval = |index: usize| long_at(result, index).unwrap();
-    let (net_cone, days) = (u64::from(at(8)), u64::from(at(12)));
+    let terms = Terms::of_ledger(&call.ledger).unwrap();
+    let divisor = terms.charge_divisor();
     let imports = at(20) as i32;
     note(interval(0) > 0 && interval(0) < 1_000_000, "ratio inside");
     note(interval(0) == 1_000_000, "ratio at its end");
@@ -217,14 +366,21 @@ fn features(call: &SettleCall, result: &[u8]) -> Vec<&'static str> {
             "any first point or schedule",
         );
         note(word(10) == 0 && count > 0 && kind == 0, "offline");
-        let full = full_charge(net_cone, days, figure(4));
+        let full = terms.full_charge(figure(4));
         note(figure(6) < full && figure(6) > 0, "charge cut");
         note(figure(6) == 0 && full > 0, "charge cut to nothing");
-        let rest = figure(4) * net_cone * days % CHARGE_DIVISOR;
-        let (whole, half) = (figure(6) == full, CHARGE_DIVISOR / 2);
+        let rest = figure(4) * terms.net_cone * terms.days % divisor;
+        let (whole, half) = (figure(6) == full, divisor / 2);
         note(whole && rest > 0 && rest < half, "charge rounded down");
         note(whole && rest > half, "charge rounded up");
         note(whole && rest == half, "half a cent");
+        let halved = terms.year == HALVED_YEAR.into();
+        note(halved && whole && full > 0, "charge of 2016");
+        note(halved && figure(6) < full, "charge of 2016 cut");
+        note(halved && whole && rest == half, "half a cent of 2016");
+        let named = terms.year > HALVED_YEAR.into();
+        note(named && figure(6) > 0, "charge of a later year");
+        note(terms.year == 0 && figure(6) > 0, "charge of no year");
         for other in 0..row {
             let theirs = |index: usize| at(row_at(&call.file, other) + 4 * index);
             let same = count > 0 && theirs(13) > 0 && theirs(12) == word(12);
@@ -312,7 +468,7 @@ fn accepted_small_cases_show_every_rule() {
             }
         }
     }
-    assert_eq!(counts.len(), 44 + 10, "{counts:?}");
+    assert_eq!(counts.len(), 49 + 10, "{counts:?}");
     assert!(counts.values().all(|count| *count >= 15), "{counts:?}");
 }
 
@@ -425,7 +581,7 @@ fn small_events_are_refused_on_every_ground_and_at_each_place() {
             formats.insert(formats_of(&call.files, settled as usize));
         }
     }
-    let anywhere = SETTLING[1..11].iter().copied().chain([22]);
+    let anywhere = SETTLING_GROUNDS[1..11].iter().copied().chain([22]);
     let refused = anywhere.flat_map(|ground| [0, 1, 2].map(|place| (ground, place)));
     let wanted = refused.chain([(0, 0), (0, 1), (0, 2), (0, 3), (6, 0), (16, 0)]);
     let missing: Vec<_> = wanted.filter(|pair| !seen.contains(pair)).collect();
@@ -519,7 +675,7 @@ fn small_calls_have_files_of_both_formats_with_every_outcome() {
     }
     let dispatched = (1..=3).map(|kind| (2, format!("dispatched on {kind}")));
     let accepted = dispatched.chain([(1, "answer 0".to_string()), (2, "no schedules".to_string())]);
-    let refused = SETTLING
+    let refused = SETTLING_GROUNDS
         .iter()
         .flat_map(|ground| [1, 2].map(|format| (format, format!("answer {ground}"))));
     let wanted = accepted.chain(refused.filter(|outcome| *outcome != (1, "answer 18".to_string())));

@@ -2,7 +2,7 @@
 
 use npa_tests::random::{
     long_open, long_settle, open_call, settle_call, year, OpenCall, Rng, SettleCall, FULL, MIDDLE,
-    OPENING, SETTLING, SMALL,
+    OPENING_GROUNDS, SETTLING_GROUNDS, SMALL,
 };
 use npa_tests::reference;
 use std::collections::BTreeSet;
@@ -36,7 +36,7 @@ fn calls_of_every_ground() {
             met.insert(opened(&open_call(&mut rng, &size)));
             met.insert(settled(settle_call(&mut rng, &size)).0);
         }
-        let answers: BTreeSet<u32> = [&[0], &OPENING[..], &SETTLING]
+        let answers: BTreeSet<u32> = [&[0], &OPENING_GROUNDS[..], &SETTLING_GROUNDS]
             .concat()
             .into_iter()
             .collect();

@@ -84,10 +84,12 @@ fn a_refused_opening_has_its_own_ground_and_no_year() {
     let file = listing::file(1_000).bytes();
     let zero = Opening::new(0, DAYS, &[11]).bytes();
     let falling = Opening::new(NET_CONE, DAYS, &[12, 11]).bytes();
+    let no_year = listing::opening_of(2017).bytes();
     for id in [11, 12, 0] {
         assert_eq!(page(id, &stream_of(&[&[], &file])), "refused,0,1\n");
         assert_eq!(page(id, &stream_of(&[&zero, &file])), "refused,0,2\n");
         assert_eq!(page(id, &stream_of(&[&falling])), "refused,0,4\n");
+        assert_eq!(page(id, &stream_of(&[&no_year, &file])), "refused,0,23\n");
         assert_eq!(page(id, &4_097u32.to_le_bytes()), "refused,0,1\n");
     }
 }
@@ -124,17 +126,44 @@ fn the_limit_is_that_of_the_largest_commitment() {
 
 #[test]
 fn plants_at_their_limit() {
-    let [reached, raised, large] = &pages::limits()[..] else {
-        panic!("there are three");
-    };
-    assert_eq!(year(1, reached), "year,1,560,0,16425,0,16425");
-    assert_eq!(year(2, reached), "year,2,0,5600,0,16425,0");
-    assert_eq!(year(1, raised), "year,1,569,0,16695,0,32850");
-    assert_eq!(
-        year(1, large),
-        "year,1,4400000000,0,439200000000,0,439200000000"
-    );
-    assert_eq!(year(2, large), "year,2,0,8800000000,0,439200000000,0");
+    let lines: Vec<[String; 2]> = pages::limits()
+        .iter()
+        .map(|case| [1, 2].map(|id| year(id, case)))
+        .collect();
+    let reached = ["year,1,560,0,16425,0,16425", "year,2,0,5600,0,16425,0"];
+    let expected = [
+        reached,
+        ["year,1,569,0,16695,0,32850", "year,2,0,5690,0,16695,0"],
+        [
+            "year,1,4400000000,0,439200000000,0,439200000000",
+            "year,2,0,8800000000,0,439200000000,0",
+        ],
+        // In 2016 a kW costs 15 cents, up to 8212.5; two have a limit of 16425.
+        ["year,1,560,0,8212,0,8212", "year,2,0,5600,0,8212,0"],
+        ["year,1,569,0,8347,0,16425", "year,2,0,5690,0,8347,0"],
+        reached,
+        [
+            "year,1,4400000000,0,219000000000,0,219000000000",
+            "year,2,0,8800000000,0,219000000000,0",
+        ],
+    ];
+    assert_eq!(lines, expected);
+}
+
+/// The year's line goes by the divisor of its year, for a plant without charges too.
+#[test]
+fn the_limit_is_that_of_the_year() {
+    let file = listing::file(1_000).bytes();
+    for (start, limit) in [
+        (2016, 821_250_000),
+        (2018, 1_642_500_000),
+        (2023, 1_642_500_000),
+    ] {
+        let opening = listing::opening_of(start).bytes();
+        let lines = page(11, &stream_of(&[&opening, &file]));
+        let row = "1000,11,86667,60000,10000,26667,0,0,0,0";
+        assert_eq!(lines, format!("{row}\nyear,11,0,0,0,0,{limit}\n"));
+    }
 }
 
 /// Lines and sums are those of the listing, and the limit goes by the accepted files.

@@ -9,7 +9,7 @@ use std::collections::{BTreeMap, BTreeSet};
 use std::fs;
 
 /// The rules that the reference has.
-const RULES: &str = "n5,n6,n7";
+const RULES: &str = "n2,n5,n6,n7,n10";
 
 /// The ground, if the case has one.
 fn ground(operation: &Operation) -> Option<u32> {
@@ -45,15 +45,18 @@ fn the_reference_gives_every_case() {
         }
     }
     let wanted = [
-        ("event", 40),
-        ("list", 40),
-        ("open", 20),
-        ("page", 40),
-        ("settle", 200),
+        ("event", 60),
+        ("list", 80),
+        ("open", 40),
+        ("page", 60),
+        ("settle", 400),
     ];
     assert_eq!(counts, BTreeMap::from(wanted));
     for name in ["open", "settle", "event"] {
         assert!(grounds.contains(&(name, 0)), "an accepted {name}");
+    }
+    for ground in [1, 2, 23, 3, 4, 5] {
+        assert!(grounds.contains(&("open", ground)), "open: {ground}");
     }
 }
 

@@ -1,6 +1,6 @@
 //! The sums of random years, taken from the results of accepted calls.
 
-use npa_tests::layout::put_longs;
+use npa_tests::layout::{put_longs, Terms};
 use npa_tests::listing;
 use npa_tests::random::{year, Rng, Size, Year, FULL, MIDDLE, SMALL};
 use npa_tests::reference::{open, settle};
@@ -12,6 +12,8 @@ struct Seen {
     charges: u128,
     credits: u128,
     cut_charges: u64,
+    /// Those of years that start in 2016.
+    halved_cut_charges: u64,
     accepted: usize,
     refused: usize,
 }
@@ -19,6 +21,7 @@ struct Seen {
 /// Runs a year and checks the sums after every call.
 fn run(year: Year, seen: &mut Seen) {
     let mut sums = Sums::of(&year.block);
+    let halved = Terms::of_opening(&year.block).unwrap().year == 2016;
     let mut ledger = year.ledger;
     assert_eq!(sums.check(&ledger), Ok(()));
     for (file, mut result) in year.calls {
@@ -40,6 +43,7 @@ fn run(year: Year, seen: &mut Seen) {
     seen.charges += sums.charges;
     seen.credits += sums.credits;
     seen.cut_charges += sums.cut_charges;
+    seen.halved_cut_charges += sums.cut_charges * u64::from(halved);
 }
 
 /// Runs years and checks that they were worth it.
@@ -61,8 +65,9 @@ fn short_years_balance() {
 
 #[test]
 fn long_years_balance_and_reach_limits() {
-    let seen = run_years(2, &SMALL, 15, 2_500);
-    assert!(seen.cut_charges > 0);
+    let seen = run_years(2, &SMALL, 40, 2_500);
+    assert!(seen.halved_cut_charges > 0);
+    assert!(seen.cut_charges > seen.halved_cut_charges);
 }
 
 #[test]

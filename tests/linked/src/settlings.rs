@@ -18,7 +18,7 @@ use npa_tests::layout::{
 use npa_tests::listing::{self, DAYS, IDS, NET_CONE};
 use npa_tests::random::{
     cut, flip, long_settle, rising, scramble, settle_call_for, valid_settle, Rng, SettleCall,
-    SettleCase, Size, FULL, MIDDLE, SETTLING, SMALL,
+    SettleCase, Size, FULL, MIDDLE, SETTLING_GROUNDS, SMALL,
 };
 use npa_tests::reference;
 use npa_tests::vectors::{self, Operation};
@@ -111,6 +111,11 @@ fn in_both(cases: Vec<SettleCase>) -> Vec<SettleCase> {
     [cases, again].concat()
 }
 
+/// The listing in a ledger of 2016.
+fn listing_of_2016() -> SettleCase {
+    with(&listing(), |case| case.ledger.words[7] = 2016)
+}
+
 /// A demand resource that is 40 kW short.
 fn short_row(id: u32) -> RowWords {
     let row = Row {
@@ -138,32 +143,36 @@ fn with(case: &SettleCase, change: impl FnOnce(&mut SettleCase)) -> SettleCase {
     changed
 }
 
-/// The listing with each bit of its ledger and of its file, in each format, turned.
+/// The listing in each format, and in 2016, with each bit of its ledger and of its file turned.
 fn single_bits(rng: &mut Rng) -> Vec<Call<2>> {
-    let mut calls = Vec::new();
-    for case in listings() {
-        let call = case.call(rng);
-        let (in_ledger, in_file) = (8 * call.ledger.len(), 8 * call.file.len());
-        let turned = |bit: usize| {
-            let mut turned = call.clone();
-            match bit.checked_sub(in_ledger) {
-                None => turned.ledger[bit / 8] ^= 1 << (bit % 8),
-                Some(bit) => turned.file[bit / 8] ^= 1 << (bit % 8),
-            }
-            turned.into()
-        };
-        calls.extend((0..in_ledger + in_file).map(turned));
-    }
-    calls
+    let [one, two] = listings();
+    [one, two, listing_of_2016()]
+        .iter()
+        .flat_map(|case| bits_of(&case.call(rng)))
+        .collect()
+}
+
+/// A call with each bit of its ledger and of its file turned.
+fn bits_of(call: &SettleCall) -> Vec<Call<2>> {
+    let (in_ledger, in_file) = (8 * call.ledger.len(), 8 * call.file.len());
+    let turned = |bit: usize| {
+        let mut turned = call.clone();
+        match bit.checked_sub(in_ledger) {
+            None => turned.ledger[bit / 8] ^= 1 << (bit % 8),
+            Some(bit) => turned.file[bit / 8] ^= 1 << (bit % 8),
+        }
+        turned.into()
+    };
+    (0..in_ledger + in_file).map(turned).collect()
 }
 
 // ---------------------------------------------------------------- random calls
 
 fn random(rng: &mut Rng, number: u64) -> Call<2> {
     let size = some_size(rng);
-    let kind = number as usize % (SETTLING.len() + 5);
-    let call = match kind.checked_sub(SETTLING.len()) {
-        None => settle_call_for(rng, &size, SETTLING[kind]),
+    let kind = number as usize % (SETTLING_GROUNDS.len() + 5);
+    let call = match kind.checked_sub(SETTLING_GROUNDS.len()) {
+        None => settle_call_for(rng, &size, SETTLING_GROUNDS[kind]),
         Some(0) if rng.one_in(4) => long_settle(rng, &size),
         Some(0) => broken(rng, &size, |call| &mut call.ledger),
         Some(1) => broken(rng, &size, |call| &mut call.file),
@@ -225,6 +234,8 @@ fn any_words(rng: &mut Rng) -> SettleCall {
     let mut case = if rng.one_in(2) { one } else { two };
     damage_header(rng, &mut case.file);
     case.ledger.words[3] = rng.pick(&[0, 999, 1_000, 1_000, 1_001]);
+    let year = u64::from(rng.near(&[2016, 2018, 2023]));
+    case.ledger.words[7] = rng.pick(&[0, 0, 2016, 2018, year]);
     case.result_length = result_bytes(4) - 2 + rng.pick(&[0, 1, 2, 2, 2, 3, 40]);
     let mut call = case.call(rng);
     let least_kw = 0u32.wrapping_sub(KW_MOST);

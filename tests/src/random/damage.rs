@@ -3,10 +3,9 @@
 use super::world::{lay_out, pool_at_limit, spread_credits, valid_open, valid_settle, World};
 use super::{OpenCase, Rng, SettleCase, Size};
 use crate::layout::{
-    ledger_bytes, limit, result_bytes, Format, IntervalFile, Ledger, Opening, BLOCK_MOST,
-    CREDITED_MOST, CURVE_POINTS_MOST, DAY_INTERVALS, IDS_MOST, IMPORTS_MOST, KW_MOST, MARKET,
-    OPENING_BYTES, POINTS_MOST, POOL_MOST, PRICE_MOST, ROWS_MOST, ROW_SCHEDULES_MOST,
-    SCHEDULES_MOST,
+    ledger_bytes, result_bytes, Format, IntervalFile, Ledger, Opening, BLOCK_MOST, CREDITED_MOST,
+    CURVE_POINTS_MOST, DAY_INTERVALS, HALVED_YEAR, IDS_MOST, IMPORTS_MOST, KW_MOST, MARKET,
+    POINTS_MOST, POOL_MOST, PRICE_MOST, ROWS_MOST, ROW_SCHEDULES_MOST, SCHEDULES_MOST,
 };
 
 /// The lowest bit of a word's upper half.
@@ -29,12 +28,13 @@ pub(super) fn damage_open(rng: &mut Rng, size: &Size, ground: u32, case: &mut Op
             damage_whole(
                 rng,
                 size,
-                (OPENING_BYTES, BLOCK_MOST),
+                (opening.front(), BLOCK_MOST),
                 &mut opening.length,
                 &mut opening.words[0],
             );
         }
         2 => damage_opening_terms(rng, &mut case.opening),
+        23 => damage_opening_year(rng, &mut case.opening),
         3 => damage_id_table(rng, size, case),
         4 => damage_ids(rng, &mut case.opening.ids),
         _ => damage_room(
@@ -56,9 +56,9 @@ fn damage_whole(
     if size.long && rng.one_in(3) {
         *length = rng.pick(&[most, most + 1]);
     } else if rng.one_in(2) {
-        *length = rng.pick(&[0, 4, least - 1, least]);
+        *length = rng.pick(&[0, 4, 20, least - 1, least]);
     } else {
-        *format = rng.pick(&[0, 1, 2, 3, 257, 258, 0x0100_0001, u32::MAX]);
+        *format = rng.pick(&[0, 1, 2, 3, 257, 258, 0x0100_0001, 0x0100_0002, u32::MAX]);
     }
 }
 
@@ -71,33 +71,55 @@ fn damage_opening_terms(rng: &mut Rng, opening: &mut Opening) {
     }
 }
 
+/// Ground 23: a year next to those that can be named, alike in some of its bytes, or 2016 with 366 days.
+fn damage_opening_year(rng: &mut Rng, opening: &mut Opening) {
+    let near = rng.pick(&[2015, 2016, 2017, 2018, 2023, 2024]);
+    let alike = rng.pick(&[65_536, 1 << 24, 1 << 31]) + near;
+    let far = rng.pick(&[0, 1, 16, 2016 - 256, u32::MAX]);
+    if rng.one_in(5) {
+        opening.words[2] = 366;
+        opening.name_year(HALVED_YEAR);
+    } else {
+        opening.name_year(rng.pick(&[near, near, near, alike, far]));
+    }
+}
+
 /// Ground 3: number and place of the ids.
 fn damage_id_table(rng: &mut Rng, size: &Size, case: &mut OpenCase) {
     let opening = &mut case.opening;
     let count = opening.ids.len() as u32;
     let bytes = 4 * count;
     let end = opening.length as u32;
+    let front = opening.front();
     match rng.below(6) {
         0 if size.long => {
-            let ids: Vec<u32> = (1..=IDS_MOST as u32 + rng.below(2) as u32).collect();
-            case.ledger_length = ledger_bytes(ids.len());
-            *opening = Opening::new(opening.words[1], opening.words[2], &ids);
+            opening.ids = (1..=IDS_MOST as u32 + rng.below(2) as u32).collect();
+            opening.words[3] = opening.ids.len() as u32;
+            opening.place(front, 0);
+            case.ledger_length = ledger_bytes(opening.ids.len());
         }
         0 | 1 => {
             let wrapping = (1 << 30) + count;
             let counts = [0, count - 1, count + 1, 512, 513, wrapping, u32::MAX];
             opening.words[3] = size.pick_count(rng, &counts);
         }
-        2 => opening.words[4] = rng.pick(&[0, 16, 19, 20, end - bytes, end - bytes + 1, end]),
+        2 => {
+            let last = end.saturating_sub(bytes);
+            opening.words[4] = rng.pick(&[0, 19, 20, 23, 24, last, last + 1, end]);
+        }
         3 => {
             let wrap = 0u32.wrapping_sub(bytes);
-            let offsets = [wrap, wrap.wrapping_add(20), wrap.wrapping_add(end)];
+            let offsets = [
+                wrap,
+                wrap.wrapping_add(front as u32),
+                wrap.wrapping_add(end),
+            ];
             let far = rng.pick(&[u32::MAX, 1 << 31]);
             opening.words[4] = rng.pick(&[far, offsets[0], offsets[1], offsets[2]]);
         }
-        4 => opening.place(rng.pick(&[19, 20, 21]), 0),
+        4 => opening.place(rng.pick(&[20, front - 1, front, front + 1]), 0),
         _ => {
-            opening.place(20, 0);
+            opening.place(front, 0);
             opening.length -= rng.index(2);
         }
     }
@@ -163,7 +185,7 @@ pub(crate) fn damage_settle(rng: &mut Rng, size: &Size, ground: u32, case: &mut 
 
 /// Ground 6: any part of the ledger.
 fn damage_ledger(rng: &mut Rng, size: &Size, case: &mut SettleCase) {
-    match rng.below(12) {
+    match rng.below(13) {
         0 => {
             let needed = ledger_bytes(case.ledger.accounts.len());
             damage_room(rng, needed, &mut case.ledger.length);
@@ -178,6 +200,7 @@ fn damage_ledger(rng: &mut Rng, size: &Size, case: &mut SettleCase) {
             let index = rng.index(case.ledger.accounts.len());
             case.ledger.accounts[index][1] = rng.pick(&[most, most + 1, HIGH, HIGH + 5, u64::MAX]);
         }
+        11 => damage_ledger_year(rng, &mut case.ledger),
         _ => {
             let world = World::heavy(rng, size);
             let carried = POOL_MOST + rng.below(2);
@@ -200,7 +223,18 @@ fn damage_ledger_words(rng: &mut Rng, size: &Size, ledger: &mut Ledger) {
         3 => ledger.words[3] = rng.pick(&[last, last + 1, HIGH, u64::MAX]),
         4 => damage_account_count(rng, size, ledger),
         5 => ledger.words[6] = rng.pick(&[0, 7, 9, 64, HIGH + 8]),
-        _ => ledger.words[7] = rng.pick(&[1, HIGH, 1 << 63]),
+        _ => damage_ledger_year(rng, ledger),
+    }
+}
+
+/// The year of a ledger next to those that it can have, also with bits above the lower 32, or 2016 with 366 days.
+/// A sum that is charged by one year's limit may be above another's.
+fn damage_ledger_year(rng: &mut Rng, ledger: &mut Ledger) {
+    let near = rng.pick(&[0, 1, 2015, 2016, 2017, 2018, 2023, 2024]);
+    let high = rng.pick(&[HIGH, 1 << 63]);
+    ledger.words[7] = rng.pick(&[near, near, high + near, high + ledger.words[7]]);
+    if rng.one_in(6) {
+        (ledger.words[2], ledger.words[7]) = (366, HALVED_YEAR.into());
     }
 }
 
@@ -243,10 +277,10 @@ fn damage_ledger_ids(rng: &mut Rng, ledger: &mut Ledger) {
 
 /// A charged sum at its limit or one above, with sums that balance.
 fn damage_charged(rng: &mut Rng, ledger: &mut Ledger) {
-    let (net_cone, days) = (ledger.words[1], ledger.words[2]);
+    let terms = ledger.terms();
     let index = rng.index(ledger.accounts.len());
     let account = &mut ledger.accounts[index];
-    let limit = limit(net_cone, days, account[1].min(KW_MOST.into()));
+    let limit = terms.limit(account[1].min(KW_MOST.into()));
     account[2] = limit + rng.below(2);
     rebalance(rng, ledger);
 }

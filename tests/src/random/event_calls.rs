@@ -2,7 +2,7 @@
 
 use super::{cut, first_made, flip, scramble, settle_call_for, settle_counts_fit};
 use super::{damage_settle, EventCall, Rng, RunningYear, SettleCall, SettleCase, Size, World};
-use crate::layout::{long_at, push_block, put_words, result_bytes, stream_of, word_at, Ledger};
+use crate::layout::{long_at, push_block, put_words, result_bytes, stream_of, word_at};
 use crate::reference;
 
 /// The bytes of a count.
@@ -104,7 +104,7 @@ fn ends(call: &EventCall, ground: u32, files: u64) -> bool {
 /// An event of three files, damaged for this ground at the one at this place.
 fn damaged_at(rng: &mut Rng, size: &Size, place: usize, ground: u32) -> EventCall {
     let world = World::any(rng, size);
-    let mut ledger = Ledger::new(world.net_cone, world.days, &world.ids);
+    let mut ledger = world.opened();
     ledger.words[3] = EARLIEST.into();
     let whole = |interval| {
         let file = world.file(rng, size, interval);

@@ -2,9 +2,9 @@
 
 use super::{first_made, OpenCase, Rng, SettleCase, Size};
 use crate::layout::{
-    self, ledger_bytes, limit, long_at, result_bytes, Format, IntervalFile, Ledger, Opening, Row,
-    CHARGE_DIVISOR, COST, DAY_INTERVALS, IDS_MOST, IMPORTS_MOST, KW_MOST, MARKET, OPENING_BYTES,
-    POINTS_MOST, POOL_MOST, ROW_SCHEDULES_MOST, SCHEDULES_MOST,
+    self, ledger_bytes, long_at, result_bytes, Format, IntervalFile, Ledger, Opening, Row, Terms,
+    COST, DAY_INTERVALS, HALVED_YEAR, IDS_MOST, IMPORTS_MOST, KW_MOST, MARKET, POINTS_MOST,
+    POOL_MOST, ROW_SCHEDULES_MOST, SCHEDULES_MOST, YEARS,
 };
 use crate::reference;
 
@@ -29,6 +29,8 @@ struct Offer<'a> {
     first: usize,
     count: usize,
     dispatched: usize,
+    /// Whether there are other schedules beside the one dispatched on.
+    several: bool,
     curve: &'a [[u32; 2]],
 }
 
@@ -82,17 +84,21 @@ impl Offers {
             return self.one_curve(stretch(rng, &self.curves));
         };
         let (first, count) = stretch(rng, groups);
+        let dispatched = rng.index(count.max(1));
         let near = match count {
             0 => (0, 0),
             _ => {
-                let [_, first, points] = rng.pick(&self.schedules[first..first + count]);
+                let any = first + rng.index(count);
+                let schedule = rng.pick(&[any, first + dispatched]);
+                let [_, first, points] = self.schedules[schedule];
                 (first as usize, points as usize)
             }
         };
         Offer {
             first,
             count,
-            dispatched: rng.index(count.max(1)),
+            dispatched,
+            several: count > 1,
             ..self.one_curve(near)
         }
     }
@@ -103,6 +109,7 @@ impl Offers {
             first,
             count,
             dispatched: 0,
+            several: false,
             curve: &self.points[first..first + count],
         }
     }
@@ -123,6 +130,8 @@ impl Offers {
 pub struct World {
     pub net_cone: u32,
     pub days: u32,
+    /// The calendar year in which it starts; 0 if the opening does not name it.
+    pub year: u32,
     pub ids: Vec<u32>,
     /// The kW that figures of this year usually stay below.
     scale: u32,
@@ -137,9 +146,11 @@ impl World {
         let usual = 20_000 + rng.below(20_000) as u32;
         let free = 1 + rng.below(200_000) as u32;
         let count = rng.up_to(size.ids);
+        let (year, days) = year_and_days(rng);
         World {
             net_cone: rng.pick(&[1, tiny, usual, usual, free, 200_000]),
-            days: rng.pick(&[365, 366]),
+            days,
+            year,
             ids: rising_ids(rng, count),
             scale: rng.pick(&[3, 50, 5_000, 200_000, KW_MOST]),
             short: rng.one_in(4),
@@ -148,10 +159,13 @@ impl World {
 
     /// A year whose pool can reach its limit.
     pub(super) fn heavy(rng: &mut Rng, size: &Size) -> Self {
-        let count = 3 + rng.index(size.ids.min(8) - 2);
+        let (year, days) = year_and_days(rng);
+        let least = heavy_accounts(year);
+        let count = least + rng.index(size.ids.min(8) - least + 1);
         World {
             net_cone: rng.between(170_000, 200_000) as u32,
-            days: rng.pick(&[365, 366]),
+            days,
+            year,
             ids: rising_ids(rng, count),
             scale: KW_MOST,
             short: true,
@@ -163,6 +177,7 @@ impl World {
         World {
             net_cone: 30_000,
             days: 365,
+            year: 0,
             ids: rising(IDS_MOST),
             scale: 200_000,
             short: false,
@@ -174,9 +189,13 @@ impl World {
         DAY_INTERVALS * self.days
     }
 
-    /// The limit of a commitment.
-    fn limit(&self, commitment: u64) -> u64 {
-        limit(self.net_cone.into(), self.days.into(), commitment)
+    /// The terms that limits and charges go by.
+    fn terms(&self) -> Terms {
+        Terms {
+            net_cone: self.net_cone.into(),
+            days: self.days.into(),
+            year: self.year.into(),
+        }
     }
 
     /// Some kW, often 0 or the scale.
@@ -197,9 +216,10 @@ impl World {
     /// whole ones, often these.
     fn edge_kw(&self, rng: &mut Rng) -> u32 {
         let cents = u64::from(self.net_cone) * u64::from(self.days);
-        let half = CHARGE_DIVISOR / 2;
+        let divisor = self.terms().charge_divisor();
+        let half = divisor / 2;
         let exact = half / common_divisor(cents, half);
-        let edge = if exact * cents % CHARGE_DIVISOR == half && rng.one_in(2) {
+        let edge = if exact * cents % divisor == half && rng.one_in(2) {
             exact * (1 + 2 * rng.below(3))
         } else {
             let steps = 1 + rng.below(5);
@@ -208,18 +228,33 @@ impl World {
         (edge - rng.below(2)).min(u64::from(KW_MOST)) as u32
     }
 
+    /// An opening block with the ids right behind its first words.
+    pub(crate) fn block(&self) -> Opening {
+        match self.year {
+            0 => Opening::new(self.net_cone, self.days, &self.ids),
+            year => Opening::of_year(year, self.net_cone, self.days, &self.ids),
+        }
+    }
+
     /// An opening block with the ids anywhere in it.
     pub(crate) fn opening(&self, rng: &mut Rng, size: &Size) -> Opening {
-        let mut opening = Opening::new(self.net_cone, self.days, &self.ids);
+        let mut opening = self.block();
         let before = size.pick_gap(rng);
         let behind = size.pick_gap(rng);
-        opening.place(OPENING_BYTES + before, behind);
+        opening.place(opening.front() + before, behind);
         opening
+    }
+
+    /// A ledger as opening leaves it.
+    pub(crate) fn opened(&self) -> Ledger {
+        let mut ledger = Ledger::new(self.net_cone, self.days, &self.ids);
+        ledger.words[7] = self.year.into();
+        ledger
     }
 
     /// A ledger as opened, or with sums of a year so far.
     fn ledger(&self, rng: &mut Rng, size: &Size) -> Ledger {
-        let mut ledger = Ledger::new(self.net_cone, self.days, &self.ids);
+        let mut ledger = self.opened();
         ledger.length += size.pick_gap(rng);
         if !rng.one_in(4) {
             let last = u64::from(self.intervals()) - 1;
@@ -238,7 +273,7 @@ impl World {
         let mut total = 0;
         for account in &mut ledger.accounts {
             account[1] = self.kw(rng).into();
-            let limit = self.limit(account[1]);
+            let limit = self.terms().limit(account[1]);
             account[2] = match rng.below(6) {
                 0 => 0,
                 1 => limit,
@@ -258,11 +293,11 @@ impl World {
         spread_credits(rng, ledger, credited);
     }
 
-    /// A ledger with this many cents carried, by three accounts near their limits.
+    /// A ledger with this many cents carried, by accounts near their limits.
     pub(super) fn heavy_ledger(&self, rng: &mut Rng, carried: u64) -> Ledger {
-        let mut ledger = Ledger::new(self.net_cone, self.days, &self.ids);
-        let limit = self.limit(KW_MOST.into());
-        for account in &mut ledger.accounts[..3] {
+        let mut ledger = self.opened();
+        let limit = self.terms().limit(KW_MOST.into());
+        for account in &mut ledger.accounts[..heavy_accounts(self.year)] {
             account[1] = KW_MOST.into();
             account[2] = limit - rng.below(1_000_000_000);
         }
@@ -322,6 +357,7 @@ impl World {
                 first,
                 count: row_points,
                 dispatched: 0,
+                several: false,
                 curve: &points[first..],
             };
             rows.push(
@@ -425,14 +461,17 @@ impl World {
         if offer.count == 0 && rng.one_in(2) {
             row.first = rng.draw() as u32;
         }
-        if kind == 0 && offer.count > 1 && rng.one_in(2) {
-            self.hold_back(rng, &mut row);
+        if kind == 0 && offer.several && rng.one_in(2) {
+            self.hold_back(rng, &mut row, offer.curve);
         }
         row
     }
 
-    /// Makes a row one that could give more than it does, so that its schedules decide what is excused.
-    fn hold_back(&self, rng: &mut Rng, row: &mut Row) {
+    /// Makes a row one that could give more than it does, at a price around the begin of the curve, so that its schedules
+    /// decide what is excused.
+    fn hold_back(&self, rng: &mut Rng, row: &mut Row, curve: &[[u32; 2]]) {
+        let first = i64::from(curve[0][0] as i32);
+        row.lmp = (first - rng.between(0, 1)).max(-PRICE_MOST) as i32;
         row.committed = 1 + self.kw(rng).min(KW_MOST - 1);
         (row.owned, row.maximum, row.minimum) = (KW_MOST, KW_MOST, 0);
         (row.planned, row.forced, row.adjustment) = (0, 0, 0);
@@ -474,6 +513,25 @@ impl World {
             (4, _) => (0, a),
             _ => (a.min(b), a.max(b)),
         }
+    }
+}
+
+/// A year, by thirds none, 2016 or any, and a number of days that it may have.
+fn year_and_days(rng: &mut Rng) -> (u32, u32) {
+    let any = rng.pick(&YEARS);
+    let year = rng.pick(&[0, HALVED_YEAR, any]);
+    let days = match year {
+        HALVED_YEAR => 365,
+        _ => rng.pick(&[365, 366]),
+    };
+    (year, days)
+}
+
+/// The accounts whose limits together are above the largest pool.
+fn heavy_accounts(year: u32) -> usize {
+    match year {
+        HALVED_YEAR => 6,
+        _ => 3,
     }
 }
 

@@ -1,9 +1,9 @@
 //! Years of calls, and streams of them.
 
 use super::{cut, damage_settle, first_made, open_call, settle_counts_fit};
-use super::{EventCall, Rng, SettleCall, SettleCase, Size, World, SETTLING};
+use super::{EventCall, Rng, SettleCall, SettleCase, Size, World, SETTLING_GROUNDS};
 use crate::layout::{
-    ledger_bytes, long_at, push_block, result_bytes, IntervalFile, Ledger, BLOCK_MOST, FILE_MOST,
+    ledger_bytes, long_at, push_block, result_bytes, IntervalFile, BLOCK_MOST, FILE_MOST,
 };
 use crate::reference;
 
@@ -107,14 +107,14 @@ impl RunningYear {
             file = self.world.file(rng, size, interval);
         }
         let mut case = SettleCase {
-            ledger: Ledger::new(self.world.net_cone, self.world.days, &self.world.ids),
+            ledger: self.world.opened(),
             result_length: result_bytes(file.rows.len()) + size.pick_gap(rng),
             file,
         };
         let kind = rng.below(20);
         if kind < 3 {
             // 6 and 16 are the ledger's.
-            let ground = rng.pick(&SETTLING[1..SETTLING.len() - 1]);
+            let ground = rng.pick(&SETTLING_GROUNDS[1..SETTLING_GROUNDS.len() - 1]);
             damage_settle(rng, size, ground, &mut case);
             if case.file.head[1] < self.world.intervals() {
                 case.file.head[1] = interval; // no leap to the year's end

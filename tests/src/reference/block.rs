@@ -4,18 +4,39 @@ use super::terms::id_count_holds;
 use super::words::{lies_within, unsigned};
 use super::Whole;
 
-const FORMAT: Whole = 1;
-const BLOCK_LEAST: usize = 20;
 pub const BLOCK_MOST: usize = 4096;
 
-/// The opening block has a possible length and the right format.
-pub fn block_holds(block: &[u8]) -> bool {
-    (BLOCK_LEAST..=BLOCK_MOST).contains(&block.len()) && unsigned(block, 0, 0) == FORMAT
+/// Without a year, and with it as a sixth word.
+pub enum Format {
+    Without,
+    WithYear,
 }
 
-/// The ids are of a possible number and all behind the five first words.
-pub fn id_table_holds(count: Whole, offset: Whole, length: usize) -> bool {
-    id_count_holds(count) && lies_within(offset, 4 * count, BLOCK_LEAST, length)
+impl Format {
+    /// The bytes of the first words, which are the least of a block.
+    fn front(&self) -> usize {
+        match self {
+            Format::Without => 20,
+            Format::WithYear => 24,
+        }
+    }
+}
+
+/// The format of an opening block, if it is one and the block has a possible length.
+pub fn block_format(block: &[u8]) -> Option<Format> {
+    let format = match block.get(..4).map(|word| unsigned(word, 0, 0))? {
+        1 => Format::Without,
+        2 => Format::WithYear,
+        _ => return None,
+    };
+    (format.front()..=BLOCK_MOST)
+        .contains(&block.len())
+        .then_some(format)
+}
+
+/// The ids are of a possible number and all behind the first words.
+pub fn id_table_holds(format: &Format, count: Whole, offset: Whole, length: usize) -> bool {
+    id_count_holds(count) && lies_within(offset, 4 * count, format.front(), length)
 }
 
 /// The ids of an opening block, one word each.

@@ -2,7 +2,7 @@
 
 use super::file::KW_MOST;
 use super::money::limit;
-use super::terms::{id_count_holds, ids_hold, intervals, terms_hold, Terms};
+use super::terms::{id_count_holds, ids_hold, intervals, start_holds, terms_hold, Terms, Year};
 use super::words::{long, put_longs};
 use super::{refuse_if, Checked, Whole};
 
@@ -18,7 +18,7 @@ pub struct Account {
 }
 
 pub struct Ledger {
-    pub terms: Terms,
+    pub year: Year,
     pub earliest: Whole,
     pub carried: Whole,
     pub accounts: Vec<Account>,
@@ -34,9 +34,12 @@ pub fn read_ledger(bytes: &[u8]) -> Checked<Ledger> {
     refuse_if(!ledger_frame_holds(bytes), 6)?;
     let count = long(bytes, 5) as usize;
     let ledger = Ledger {
-        terms: Terms {
-            net_cone: long(bytes, 1),
-            days: long(bytes, 2),
+        year: Year {
+            terms: Terms {
+                net_cone: long(bytes, 1),
+                days: long(bytes, 2),
+            },
+            start: long(bytes, 7),
         },
         earliest: long(bytes, 3),
         carried: long(bytes, 4),
@@ -51,7 +54,6 @@ fn ledger_frame_holds(bytes: &[u8]) -> bool {
     bytes.len() >= 64
         && long(bytes, 0) == FORMAT
         && long(bytes, 6) == 8
-        && long(bytes, 7) == 0
         && id_count_holds(long(bytes, 5))
         && bytes.len() as Whole >= ledger_bytes(long(bytes, 5))
 }
@@ -67,24 +69,25 @@ fn read_account(bytes: &[u8], index: usize) -> Account {
     }
 }
 
-/// Terms, ids, interval, carried cents and every account are possible.
+/// Terms, year, ids, interval, carried cents and every account are possible.
 fn ledger_holds(ledger: &Ledger) -> bool {
     let ids: Vec<Whole> = ledger.accounts.iter().map(|account| account.id).collect();
-    terms_hold(ledger.terms)
+    terms_hold(ledger.year.terms)
+        && (ledger.year.start == 0 || start_holds(ledger.year))
         && ids_hold(&ids)
-        && ledger.earliest <= intervals(ledger.terms)
+        && ledger.earliest <= intervals(ledger.year.terms)
         && ledger.carried <= POOL_MOST
         && ledger
             .accounts
             .iter()
-            .all(|account| account_holds(ledger.terms, account))
+            .all(|account| account_holds(ledger.year, account))
         && ledger_balances(ledger)
 }
 
 /// Commitment and sums of an account are within their bounds.
-fn account_holds(terms: Terms, account: &Account) -> bool {
+fn account_holds(year: Year, account: &Account) -> bool {
     account.commitment <= KW_MOST
-        && account.charged <= limit(terms, account.commitment)
+        && account.charged <= limit(year, account.commitment)
         && account.credited <= CREDITED_MOST
 }
 
@@ -103,11 +106,14 @@ pub fn find_account(ledger: &Ledger, id: Whole) -> Option<usize> {
         .ok()
 }
 
-/// An opened ledger: the terms, the accounts with their ids, and zeros.
-pub fn write_opened(terms: Terms, ids: &[Whole], bytes: &mut [u8]) {
-    let Terms { net_cone, days } = terms;
+/// An opened ledger: the terms, the year, the accounts with their ids, and zeros.
+pub fn write_opened(year: Year, ids: &[Whole], bytes: &mut [u8]) {
+    let Year {
+        terms: Terms { net_cone, days },
+        start,
+    } = year;
     let count = ids.len() as Whole;
-    put_longs(bytes, 0, &[FORMAT, net_cone, days, 0, 0, count, 8, 0]);
+    put_longs(bytes, 0, &[FORMAT, net_cone, days, 0, 0, count, 8, start]);
     for (index, id) in ids.iter().enumerate() {
         put_longs(bytes, 8 + 4 * index, &[*id, 0, 0, 0]);
     }

@@ -1,17 +1,27 @@
 //! From kW to cents: limit, charge and credit.
 
-use super::terms::Terms;
+use super::terms::{Year, HALVED};
 use super::Whole;
 
 /// The most a plant with this largest commitment may be charged in the year.
-pub fn limit(terms: Terms, commitment: Whole) -> Whole {
-    3 * terms.net_cone * terms.days * commitment / 2000
+pub fn limit(year: Year, commitment: Whole) -> Whole {
+    let divisor = if year.start == HALVED { 4000 } else { 2000 };
+    3 * cents(year, commitment) / divisor
 }
 
 /// The price of a shortfall to the nearest cent, then cut to what the limit leaves.
-pub fn charge(terms: Terms, shortfall: Whole, left: Whole) -> Whole {
-    let full = nearest(shortfall * terms.net_cone * terms.days, 360_000);
-    full.min(left)
+pub fn charge(year: Year, shortfall: Whole, left: Whole) -> Whole {
+    let divisor = if year.start == HALVED {
+        720_000
+    } else {
+        360_000
+    };
+    nearest(cents(year, shortfall), divisor).min(left)
+}
+
+/// So many kW times Net CONE times days.
+fn cents(year: Year, kw: Whole) -> Whole {
+    kw * year.terms.net_cone * year.terms.days
 }
 
 /// The whole number nearest to a quotient, and the upper one halfway between two.

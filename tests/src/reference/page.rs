@@ -55,7 +55,7 @@ fn print_year(listing: &Listing, id: Whole, shortfall: Whole, bonus: Whole, out:
     let index = find_account(&ledger, id).expect("the id is on the roster");
     let account = &ledger.accounts[index];
     let (charged, credited) = (account.charged, account.credited);
-    let limit = limit(ledger.terms, account.commitment);
+    let limit = limit(ledger.year, account.commitment);
     out.push_str("year,");
     print_numbers(out, &[id, shortfall, bonus, charged, credited, limit]);
 }

@@ -56,7 +56,7 @@ fn charged(ledger: &[u8], file: &[u8], room: usize) -> Checked<Charged> {
     let mut ledger = read_ledger(ledger)?;
     refuse_if(!file_holds(file), 7)?;
     let head = read_head(file);
-    refuse_if(head.terms != ledger.terms, 8)?;
+    refuse_if(head.terms != ledger.year.terms, 8)?;
     refuse_if(!event_holds(&head), 9)?;
     refuse_if(head.interval < ledger.earliest, 10)?;
     refuse_if(!tables_hold(&head, file.len()), 11)?;
@@ -115,13 +115,13 @@ fn account_of<'a>(ledger: &'a mut Ledger, row: &Row) -> &'a mut Account {
 
 /// Raises commitments, then charges every row to its account.
 fn charge_rows(ledger: &mut Ledger, rows: &[Row], assessment: &Assessment) -> Vec<Whole> {
-    let terms = ledger.terms;
+    let year = ledger.year;
     let mut charges = Vec::new();
     for (row, figures) in rows.iter().zip(&assessment.rows) {
         let account = account_of(ledger, row);
         account.commitment = account.commitment.max(row.committed);
-        let left = limit(terms, account.commitment) - account.charged;
-        let charge = charge(terms, figures.shortfall, left);
+        let left = limit(year, account.commitment) - account.charged;
+        let charge = charge(year, figures.shortfall, left);
         account.charged += charge;
         charges.push(charge);
     }

@@ -1,5 +1,6 @@
 //! Ledgers and results as text, to read.
 
+use crate::examine::year_fault;
 use npa_tests::layout::{long_at, result_bytes};
 
 const LEDGER: [&str; 8] = [
@@ -10,7 +11,7 @@ const LEDGER: [&str; 8] = [
     "carried",
     "accounts",
     "accounts_at",
-    "zero",
+    "year",
 ];
 const ACCOUNT: [&str; 4] = ["id", "commitment", "charged", "credited"];
 const INTERVAL: [&str; 8] = [
@@ -55,11 +56,10 @@ fn other(fault: &str) -> Shown {
     }
 }
 
-/// Whether bytes have the fixed words of a ledger; a result has no 0 as its number of rows.
+/// Whether bytes have the fixed words of a ledger; a result has as its number of rows neither 0 nor a year.
 fn is_ledger(bytes: &[u8]) -> bool {
-    [(0, 1), (6, ACCOUNTS_AT), (7, 0)]
-        .iter()
-        .all(|(word, value)| long_at(bytes, *word) == Some(*value))
+    let is = |word, value| long_at(bytes, word) == Some(value);
+    is(0, 1) && is(6, ACCOUNTS_AT) && (is(7, 0) || long_at(bytes, 7) > Some(ROWS_MOST))
 }
 
 /// Whether bytes have all rows of a result where a ledger has two fixed words.
@@ -79,6 +79,10 @@ pub fn show_ledger(bytes: &[u8]) -> Shown {
     if let Some(at) = begin {
         let what = format!("accounts_at is {at}, but accounts begin at word {ACCOUNTS_AT}");
         shown.fault = shown.fault.or(Some(what));
+    }
+    let [days, year] = [2, 7].map(|word| long_at(bytes, word).unwrap_or(0));
+    if year > 0 {
+        shown.fault = shown.fault.or_else(|| year_fault(year, days));
     }
     shown
 }

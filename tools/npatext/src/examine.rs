@@ -2,9 +2,9 @@
 
 use crate::names::{Sign, KINDS, ROW_WORDS, UNCOMMITTED};
 use npa_tests::layout::{
-    word_at, BLOCK_MOST, DAY_INTERVALS, FILE_MOST, HEADER_BYTES, IDS_MOST, IMPORTS_MOST, KW_MOST,
-    NET_CONE_MOST, OPENING_BYTES, POINTS_MOST, POINT_BYTES, PRICE_MOST, ROWS_MOST, ROW_BYTES,
-    ROW_POINTS_MOST,
+    word_at, BLOCK_MOST, DAY_INTERVALS, FILE_MOST, HALVED_YEAR, HEADER_BYTES, IDS_MOST,
+    IMPORTS_MOST, KW_MOST, NET_CONE_MOST, OPENING_BYTES, PLAIN_FORMAT, POINTS_MOST, POINT_BYTES,
+    PRICE_MOST, ROWS_MOST, ROW_BYTES, ROW_POINTS_MOST, YEARS, YEAR_FORMAT, YEAR_OPENING_BYTES,
 };
 
 /// A fault: its ground, where in the block it is, and what it is.
@@ -50,21 +50,25 @@ impl Faults {
         }
     }
 
-    /// The length and the format of a block.
-    fn whole(&mut self, ground: u32, block: &[u8], least: usize, most: usize) {
+    /// The length and the format of a block, which is to be one of these.
+    fn whole(&mut self, ground: u32, block: &[u8], formats: &[u32], least: usize, most: usize) {
         let length = block.len();
         if length < least {
             self.add(ground, "", format!("{length} bytes, under {least}"));
         } else if length > most {
             self.add(ground, "", format!("{length} bytes, over {most}"));
         }
-        match word_at(block, 0) {
-            None | Some(1) => (),
+        let not = match formats {
+            [only] => format!("not {only}"),
+            _ => "neither 1 nor 2".to_string(),
+        };
+        match word_at(block, 0).filter(|format| !formats.contains(format)) {
+            None => (),
             Some(format) if length < least => {
-                self.add(ground, "", format!("format {format}, not 1"));
+                self.add(ground, "", format!("format {format}, {not}"));
             }
             Some(format) => {
-                let what = format!("format {format}, not 1 (the rest is read as format 1)");
+                let what = format!("format {format}, {not} (the rest is read as format 1)");
                 self.add(ground, "", what);
             }
         }
@@ -72,7 +76,10 @@ impl Faults {
 
     /// In checking order; faults of one ground stay in the order of the rows.
     fn in_order(mut self) -> Vec<Found> {
-        self.0.sort_by_key(|found| found.ground);
+        self.0.sort_by_key(|found| match found.ground {
+            23 => (2, 1), // between 2 and 3
+            ground => (ground, 0),
+        });
         self.0
     }
 }
@@ -147,11 +154,28 @@ impl Table {
     }
 }
 
-/// Every fault of an opening block: grounds 1 to 4.
+/// What is wrong with a year of so many days, if anything is.
+pub fn year_fault(year: u64, days: u64) -> Option<String> {
+    let halved = u64::from(HALVED_YEAR);
+    if !YEARS.map(u64::from).contains(&year) {
+        return Some(format!(
+            "year {year}, neither {halved} nor from 2018 to 2023"
+        ));
+    }
+    (year == halved && days == 366).then(|| format!("year {year} with 366 days, not 365"))
+}
+
+/// Every fault of an opening block: grounds 1 to 4, and 23.
 pub fn opening_faults(block: &[u8]) -> Vec<Found> {
     let mut faults = Faults::default();
-    faults.whole(1, block, OPENING_BYTES, BLOCK_MOST);
-    if block.len() < OPENING_BYTES {
+    let has_year = word_at(block, 0) == Some(YEAR_FORMAT);
+    let front = if has_year {
+        YEAR_OPENING_BYTES
+    } else {
+        OPENING_BYTES
+    };
+    faults.whole(1, block, &[PLAIN_FORMAT, YEAR_FORMAT], front, BLOCK_MOST);
+    if block.len() < front {
         return faults.in_order();
     }
     let word = |index: usize| word_at(block, 4 * index).unwrap_or(0);
@@ -161,6 +185,9 @@ pub fn opening_faults(block: &[u8]) -> Vec<Found> {
     if days != 365 && days != 366 {
         faults.add(2, "", format!("days {days}, neither 365 nor 366"));
     }
+    if let Some(what) = year_fault(word(5).into(), days.into()).filter(|_| has_year) {
+        faults.add(23, "", what);
+    }
     faults.range(3, "", Named("count", count.into()), 1, IDS_MOST as i64);
     let table = Table {
         name: "ids",
@@ -169,8 +196,16 @@ pub fn opening_faults(block: &[u8]) -> Vec<Found> {
         at: word(4).into(),
         entry: 4,
     };
-    table.misplaced(OPENING_BYTES, block.len(), &mut faults, 3);
-    let ids: Vec<[u32; 1]> = table.entries(block, OPENING_BYTES).unwrap_or_default();
+    table.misplaced(front, block.len(), &mut faults, 3);
+    roster_faults(
+        &table.entries(block, front).unwrap_or_default(),
+        &mut faults,
+    );
+    faults.in_order()
+}
+
+/// Ground 4.
+fn roster_faults(ids: &[[u32; 1]], faults: &mut Faults) {
     for (index, [id]) in ids.iter().enumerate() {
         let place = format!("id {}", index + 1);
         if *id == 0 {
@@ -184,13 +219,12 @@ pub fn opening_faults(block: &[u8]) -> Vec<Found> {
             );
         }
     }
-    faults.in_order()
 }
 
 /// Every fault of an interval file but 16. Without what the stream so far says, those that the file alone shows.
 pub fn file_faults(file: &[u8], known: Option<&Known>) -> Vec<Found> {
     let mut faults = Faults::default();
-    faults.whole(7, file, HEADER_BYTES, FILE_MOST);
+    faults.whole(7, file, &[PLAIN_FORMAT], HEADER_BYTES, FILE_MOST);
     if file.len() < HEADER_BYTES {
         return faults.in_order();
     }

@@ -2,9 +2,7 @@
 
 use crate::line::{Fault, Line};
 use crate::names::{Sign, KINDS, ROW_WORDS};
-use npa_tests::layout::{
-    push_block, IntervalFile, Opening, HEADER_BYTES, OPENING_BYTES, POINT_BYTES, ROW_BYTES,
-};
+use npa_tests::layout::{push_block, IntervalFile, Opening, HEADER_BYTES, POINT_BYTES, ROW_BYTES};
 
 /// The longest block that a text may describe.
 const LENGTH_MOST: usize = 1 << 20;
@@ -108,15 +106,21 @@ impl Maker {
         Ok(())
     }
 
-    /// `opening net_cone=N days=N ids=LIST`, and `format`, `count`, `ids_at`, `length`.
+    /// `opening net_cone=N days=N ids=LIST`, and `year`, `format`, `count`, `ids_at`, `length`.
     fn opening(&mut self, line: &mut Line) -> Result<(), Fault> {
         let net_cone = line.need("net_cone")?;
         let net_cone = line.unsigned("net_cone", net_cone)?;
         let days = line.need("days")?;
         let days = line.unsigned("days", days)?;
         let ids = line.need("ids")?;
-        let mut opening = Opening::new(net_cone, days, &id_list(line, "ids", ids)?);
-        opening.words[0] = line.take_unsigned("format")?.unwrap_or(1);
+        let ids = id_list(line, "ids", ids)?;
+        let mut opening = match line.take_unsigned("year")? {
+            None => Opening::new(net_cone, days, &ids),
+            Some(year) => Opening::of_year(year, net_cone, days, &ids),
+        };
+        if let Some(format) = line.take_unsigned("format")? {
+            opening.words[0] = format;
+        }
         if let Some(at) = line.take_unsigned("ids_at")? {
             opening.place(at as usize, 0);
         }
@@ -228,7 +232,7 @@ impl Block {
     fn length(&self) -> Result<usize, Fault> {
         let end = match &self.body {
             Body::Opening(opening) => {
-                end_of(OPENING_BYTES, &[(opening.ids_at, 4 * opening.ids.len())])
+                end_of(opening.front(), &[(opening.ids_at, 4 * opening.ids.len())])
             }
             Body::Interval(interval) => end_of(HEADER_BYTES, &interval.tables()),
             Body::Bytes => {

@@ -3,7 +3,8 @@
 use crate::make::{end_of, make_under, Terms};
 use crate::names::{Sign, KINDS, ROW_WORDS};
 use npa_tests::layout::{
-    hex, word_at, BLOCK_MOST, FILE_MOST, HEADER_BYTES, OPENING_BYTES, POINT_BYTES, ROW_BYTES,
+    hex, word_at, BLOCK_MOST, FILE_MOST, HEADER_BYTES, OPENING_BYTES, PLAIN_FORMAT, POINT_BYTES,
+    ROW_BYTES, YEAR_FORMAT, YEAR_OPENING_BYTES,
 };
 
 /// Bytes that one line shows.
@@ -93,11 +94,20 @@ fn show_opening(block: &[u8]) -> String {
     let ids: Vec<[u32; 1]> = table(block, count, at).unwrap_or_default();
     let ids = ids.concat();
     let list = id_list(&ids);
-    let mut text = format!("opening net_cone={net_cone} days={days} ids={list}");
-    say(&mut text, "format", format, 1);
+    let year = word_at(block, OPENING_BYTES).filter(|_| format == YEAR_FORMAT);
+    let mut text = format!("opening net_cone={net_cone} days={days}");
+    let (own_format, front) = match year {
+        Some(year) => {
+            text += &format!(" year={year}");
+            (YEAR_FORMAT, YEAR_OPENING_BYTES)
+        }
+        None => (PLAIN_FORMAT, OPENING_BYTES),
+    };
+    text += &format!(" ids={list}");
+    say(&mut text, "format", format, own_format);
     say(&mut text, "count", count as usize, ids.len());
-    say(&mut text, "ids_at", at as usize, OPENING_BYTES);
-    let end = end_of(OPENING_BYTES, &[(at as usize, 4 * ids.len())]);
+    say(&mut text, "ids_at", at as usize, front);
+    let end = end_of(front, &[(at as usize, 4 * ids.len())]);
     say(&mut text, "length", block.len(), end);
     text + "\n"
 }

@@ -14,7 +14,9 @@ pub fn meaning(ground: u32) -> &'static str {
         3 => "there are no ids or too many or they do not lie inside the block",
         4 => "an id is 0 or not above the one before it",
         5 => "the ledger buffer is too short",
-        6 => "the ledger is cut short or damaged or its sums do not close",
+        6 => {
+            "the ledger is cut short or damaged or has an impossible year or its sums do not close"
+        }
         7 => "the interval file is too short or too long or of another format",
         8 => "Net CONE or days are not the opening's",
         9 => "the interval is not in the year or region-wide or imports are out of range",
@@ -25,6 +27,7 @@ pub fn meaning(ground: u32) -> &'static str {
         14 => "the points of a row are too many or misplaced or out of range or fall",
         15 => "the result buffer is too short",
         16 => "carried cents and charges together are too large",
+        23 => "the year is neither 2016 nor from 2018 to 2023 or 2016 has 366 days",
         _ => "not a ground",
     }
 }

@@ -184,7 +184,11 @@ const ACCOUNT: &str = "account 1 id=11 commitment=12 charged=13 credited=14";
 #[test]
 fn ledgers_and_results_are_shown() {
     let ledger = bytes_of(&[1, 30000, 365, 1001, 1, 1, 8, 0, 11, 12, 13, 14, 15]);
-    let text = format!("{LEDGER} accounts_at=8 zero=0\n{ACCOUNT}\n# 8 bytes after them\n");
+    let text = format!("{LEDGER} accounts_at=8 year=0\n{ACCOUNT}\n# 8 bytes after them\n");
+    let fault = None;
+    assert_eq!(show_ledger(&ledger), Shown { text, fault });
+    let ledger = bytes_of(&[1, 30000, 365, 1001, 1, 1, 8, 2016, 11, 12, 13, 14]);
+    let text = format!("{LEDGER} accounts_at=8 year=2016\n{ACCOUNT}\n");
     let fault = None;
     assert_eq!(show_ledger(&ledger), Shown { text, fault });
     let result = bytes_of(&[1, 2, 3, 4, 5, 6, 7, 1, 8, 9, 10, 11, 12, 13, 14, 15]);
@@ -203,6 +207,8 @@ fn what_is_wrong_is_said() {
     let whole = bytes_of(&[1, 30000, 365, 1001, 1, 1, 8, 0, 11, 12, 13, 14]);
     let result = bytes_of(&[1, 2, 3, 4, 5, 6, 7, 1, 8, 9, 10, 11, 12, 13, 14, 15]);
     let elsewhere = bytes_of(&[1, 30000, 365, 1001, 1, 1, 9, 0, 11, 12, 13, 14]);
+    let no_year = bytes_of(&[1, 30000, 365, 1001, 1, 1, 8, 2017, 11, 12, 13, 14]);
+    let leap = bytes_of(&[1, 30000, 366, 1001, 1, 1, 8, 2016, 11, 12, 13, 14]);
     let cases = [
         (
             "ledger",
@@ -214,7 +220,7 @@ fn what_is_wrong_is_said() {
             "ledger",
             &short,
             format!(
-                "{} accounts_at=8 zero=0\n{ACCOUNT}\n# 8 bytes after them\n",
+                "{} accounts_at=8 year=0\n{ACCOUNT}\n# 8 bytes after them\n",
                 LEDGER.replace("accounts=1", "accounts=2")
             ),
             "104 bytes are too few for a ledger of 2 accounts",
@@ -222,8 +228,29 @@ fn what_is_wrong_is_said() {
         (
             "ledger",
             &elsewhere,
-            format!("{LEDGER} accounts_at=9 zero=0\n{ACCOUNT}\n"),
+            format!("{LEDGER} accounts_at=9 year=0\n{ACCOUNT}\n"),
             "accounts_at is 9, but accounts begin at word 8",
+        ),
+        (
+            "ledger",
+            &no_year,
+            format!("{LEDGER} accounts_at=8 year=2017\n{ACCOUNT}\n"),
+            "year 2017, neither 2016 nor from 2018 to 2023",
+        ),
+        (
+            "ledger",
+            &leap,
+            format!(
+                "{} accounts_at=8 year=2016\n{ACCOUNT}\n",
+                LEDGER.replace("days=365", "days=366")
+            ),
+            "year 2016 with 366 days, not 365",
+        ),
+        (
+            "result",
+            &no_year,
+            String::new(),
+            "it is a ledger, not a result; npatext ledger shows it",
         ),
         (
             "result",

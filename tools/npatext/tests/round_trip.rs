@@ -121,6 +121,27 @@ fn fields_are_the_words_of_the_layouts() {
     assert_eq!(make(text).unwrap(), stream);
 }
 
+/// A year is word 5, and the ids follow it; the format is 2 unless another is given.
+#[test]
+fn a_year_is_a_word_of_the_opening() {
+    let made = |text: &str| make(text).unwrap();
+    let mut opening = Opening::of_year(2016, 1, 365, &[3, 5]);
+    let text = "opening net_cone=1 days=365 year=2016 ids=3,5\n";
+    assert_eq!(made(text), stream_of(&[&opening.bytes()]));
+    assert_eq!(show(&made(text)), format!("# block 0\n{text}"));
+    opening.words[0] = 1;
+    let text = "opening net_cone=1 days=365 year=2016 ids=3,5 format=1\n";
+    assert_eq!(made(text), stream_of(&[&opening.bytes()]));
+    opening.words[0] = 2;
+    opening.place(20, 0);
+    let text = "opening net_cone=1 days=365 year=2016 ids=3,5 ids_at=20\n";
+    assert_eq!(made(text), stream_of(&[&opening.bytes()]));
+    let mut plain = Opening::new(1, 365, &[3, 5]);
+    plain.words[0] = 2;
+    let text = "opening net_cone=1 days=365 ids=3,5 format=2\n";
+    assert_eq!(made(text), stream_of(&[&plain.bytes()]));
+}
+
 /// A line for several rows makes the same bytes as a line for each, with points shared.
 #[test]
 fn rows_that_are_alike() {

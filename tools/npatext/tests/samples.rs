@@ -72,6 +72,7 @@ fn samples_are_complete() {
         "opening_3",
         "opening_length",
         "refusals",
+        "year2016",
     ];
     assert_eq!(names, wanted);
     for (name, kinds) in &samples {
@@ -167,6 +168,29 @@ pool,0,800000,109500,109500,0
 pool,1,500000,18250,0,18250
 ";
     assert_eq!(text("importers", "csv"), printed);
+}
+
+/// Worked by hand: 987 kW cost 987 * 365 / 720000, or 0.5003 of a cent, and the limit is 3 * 365 * 987 / 4000, or
+/// 270.19 cents.
+#[test]
+fn a_limit_of_2016_is_reached() {
+    let mut printed = HEADING.to_string();
+    for interval in 0..270 {
+        let carried = interval + 1;
+        printed += &format!("{interval},11,987,0,0,0,987,0,1,0\npool,{interval},0,1,0,{carried}\n");
+    }
+    printed += "\
+270,11,987,0,0,0,987,0,0,0
+270,12,0,500,0,0,0,500,0,270
+pool,270,0,0,270,0
+271,11,987,0,0,0,987,0,0,0
+271,12,0,500,0,0,0,500,0,0
+pool,271,0,0,0,0
+";
+    assert_eq!(text("year2016", "csv"), printed);
+    let input = [&11u32.to_le_bytes(), &file("year2016", "stream")[..]].concat();
+    let page = String::from_utf8(npapage(&input)).expect("a page is text");
+    assert!(page.ends_with("\nyear,11,268464,0,270,0,270\n"));
 }
 
 /// The numbers of the lines that begin with a word, or with a number if there is none.

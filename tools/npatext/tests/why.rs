@@ -4,7 +4,9 @@ mod common;
 
 use common::{npatext, Folder, SAMPLES};
 use npa_tests::layout::{push_block, word_at};
-use npa_tests::random::{self, flip, Rng, RunningYear, Size, FULL, MIDDLE, SMALL};
+use npa_tests::random::{
+    self, flip, Rng, RunningYear, Size, FULL, MIDDLE, OPENING_GROUNDS, SETTLING_GROUNDS, SMALL,
+};
 use npa_tests::reference::npalist;
 use npa_tests::streams;
 use npatext::{make, Source, Why};
@@ -37,11 +39,39 @@ fn openings_in_words() {
         ("block length=19\nbytes 0 01", &["19 bytes, under 20, ground 1"]),
         (
             "block length=19\nbytes 0 07",
-            &["19 bytes, under 20, ground 1", "format 7, not 1, ground 1"],
+            &["19 bytes, under 20, ground 1", "format 7, neither 1 nor 2, ground 1"],
         ),
         (
-            "opening net_cone=1 days=365 ids=1 format=2",
-            &["format 2, not 1 (the rest is read as format 1), ground 1"],
+            "opening net_cone=1 days=365 ids=1 format=3",
+            &["format 3, neither 1 nor 2 (the rest is read as format 1), ground 1"],
+        ),
+        ("block length=23\nbytes 0 02", &["23 bytes, under 24, ground 1"]),
+        (
+            "opening net_cone=1 days=365 year=2017 ids=1",
+            &["year 2017, neither 2016 nor from 2018 to 2023, ground 23"],
+        ),
+        (
+            "opening net_cone=1 days=366 year=2016 ids=1",
+            &["year 2016 with 366 days, not 365, ground 23"],
+        ),
+        (
+            "opening net_cone=1 days=365 ids=5 format=2",
+            &[
+                "year 5, neither 2016 nor from 2018 to 2023, ground 23",
+                "ids_at 20 below 24; its ids are not examined, ground 3",
+            ],
+        ),
+        (
+            "opening net_cone=1 days=365 year=2018 ids=5 ids_at=23",
+            &["ids_at 23 below 24; its ids are not examined, ground 3"],
+        ),
+        (
+            "opening net_cone=0 days=366 year=0 ids=2,2 count=3",
+            &[
+                "net_cone 0 below 1, ground 2",
+                "year 0, neither 2016 nor from 2018 to 2023, ground 23",
+                "3 ids from ids_at 24 end at byte 36, beyond its 32 bytes; its ids are not examined, ground 3",
+            ],
         ),
         (
             "opening net_cone=0 days=365 ids=1",
@@ -86,7 +116,7 @@ fn openings_in_words() {
         (
             "opening net_cone=0 days=0 ids=2,1 format=0 length=28",
             &[
-                "format 0, not 1 (the rest is read as format 1), ground 1",
+                "format 0, neither 1 nor 2 (the rest is read as format 1), ground 1",
                 "net_cone 0 below 1, ground 2",
                 "days 0, neither 365 nor 366, ground 2",
                 "id 2: 1 not above 2, the id before it, ground 4",
@@ -380,6 +410,12 @@ fn faults_are_counted() {
 /// How often each ground was the first of a block.
 type Met = BTreeMap<u32, u64>;
 
+/// The place of a ground in checking order.
+fn turn(ground: &u32) -> Option<usize> {
+    let mut grounds = OPENING_GROUNDS.iter().chain(&SETTLING_GROUNDS);
+    grounds.position(|other| other == ground)
+}
+
 /// The first ground that is named for a block is the one that npalist prints for it, and none where it settles;
 /// nothing is said to be refused by a fault that is not found.
 fn agree(stream: &[u8], name: &str, met: &mut Met) {
@@ -394,8 +430,9 @@ fn agree(stream: &[u8], name: &str, met: &mut Met) {
     while let Some(said) = why.block().expect("bytes can be read") {
         let unfound = said.lines.iter().any(|line| line.contains("not found"));
         assert!(!unfound, "{name}: {said:?}");
+        let turns: Vec<_> = said.grounds.iter().map(turn).collect();
         assert!(
-            said.grounds.windows(2).all(|pair| pair[0] <= pair[1]),
+            turns.windows(2).all(|pair| pair[0] <= pair[1]),
             "{name}: {said:?}"
         );
         if !listed {
@@ -450,7 +487,7 @@ fn first_grounds_are_npalists() {
     let grounds: Vec<u32> = met.keys().copied().collect();
     assert_eq!(
         grounds,
-        [1, 2, 3, 4, 7, 8, 9, 10, 11, 12, 13, 14, 16],
+        [1, 2, 3, 4, 7, 8, 9, 10, 11, 12, 13, 14, 16, 23],
         "{met:?}"
     );
 }
@@ -486,7 +523,7 @@ fn first_grounds_of_damaged_blocks_are_npalists() {
         };
         agree(&stream, &format!("seed {seed}"), &mut met);
     }
-    for ground in (1..=4).chain(7..=14) {
+    for ground in (1..=4).chain(7..=14).chain([23]) {
         assert!(
             met.get(&ground).is_some_and(|count| *count > 5),
             "{ground}: {met:?}"

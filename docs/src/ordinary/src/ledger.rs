@@ -1,7 +1,7 @@
 //! The ledger and ground 6.
 
 use crate::file::{Row, KW_MOST};
-use crate::terms::Terms;
+use crate::terms::{Terms, Year};
 use crate::words::{put_words64, words64};
 
 pub const ACCOUNTS_MOST: usize = 512;
@@ -20,7 +20,7 @@ pub struct Account {
 }
 
 pub struct Ledger {
-    pub terms: Terms,
+    pub year: Year,
     pub earliest: u64,
     pub carried: u64,
     pub accounts: Vec<Account>,
@@ -48,17 +48,17 @@ impl Account {
         }
     }
 
-    fn holds(&self, terms: &Terms) -> bool {
+    fn holds(&self, year: &Year) -> bool {
         self.commitment <= KW_MOST
-            && self.charged <= terms.limit(self.commitment)
+            && self.charged <= year.limit(self.commitment)
             && self.credited <= CREDITED_MOST
     }
 
     /// Raises the commitment, then charges a shortfall as far as the limit leaves room.
-    pub fn charge(&mut self, terms: &Terms, committed: u64, shortfall: u64) -> u64 {
+    pub fn charge(&mut self, year: &Year, committed: u64, shortfall: u64) -> u64 {
         self.commitment = self.commitment.max(committed);
-        let left = terms.limit(self.commitment) - self.charged;
-        let charge = terms.charge(shortfall).min(left);
+        let left = year.limit(self.commitment) - self.charged;
+        let charge = year.charge(shortfall).min(left);
         self.charged += charge;
         charge
     }
@@ -70,14 +70,17 @@ impl Ledger {
         if bytes.len() < HEADER_BYTES {
             return None;
         }
-        let [format, net_cone, days, earliest, carried, count, offset, zero] = words64(bytes);
-        let laid_out = format == 1 && offset == 8 && zero == 0;
+        let [format, net_cone, days, earliest, carried, count, offset, start] = words64(bytes);
+        let laid_out = format == 1 && offset == 8;
         if !laid_out || !(1..=ACCOUNTS_MOST as u64).contains(&count) {
             return None;
         }
         let accounts = bytes.get(HEADER_BYTES..ledger_bytes(count as usize))?;
         let ledger = Ledger {
-            terms: Terms { net_cone, days },
+            year: Year {
+                terms: Terms { net_cone, days },
+                start,
+            },
             earliest,
             carried,
             accounts: accounts
@@ -89,14 +92,13 @@ impl Ledger {
     }
 
     fn holds(&self) -> bool {
-        self.terms.hold()
-            && self.earliest <= self.terms.intervals()
+        let year = &self.year;
+        year.terms.hold()
+            && (year.start == 0 || year.can_be_named())
+            && self.earliest <= year.terms.intervals()
             && self.carried <= POOL_MOST
             && ids_hold(&self.accounts)
-            && self
-                .accounts
-                .iter()
-                .all(|account| account.holds(&self.terms))
+            && self.accounts.iter().all(|account| account.holds(year))
             && self.closes()
     }
 
@@ -124,10 +126,22 @@ impl Ledger {
 
     /// Writes the header and all accounts.
     pub fn write(&self, bytes: &mut [u8]) {
-        let Terms { net_cone, days } = self.terms;
+        let Year {
+            terms: Terms { net_cone, days },
+            start,
+        } = self.year;
         let count = self.accounts.len() as u64;
         let (header, accounts) = bytes.split_at_mut(HEADER_BYTES);
-        let words = [1, net_cone, days, self.earliest, self.carried, count, 8, 0];
+        let words = [
+            1,
+            net_cone,
+            days,
+            self.earliest,
+            self.carried,
+            count,
+            8,
+            start,
+        ];
         put_words64(header, &words);
         for (bytes, account) in accounts.chunks_exact_mut(ACCOUNT_BYTES).zip(&self.accounts) {
             let Account {

@@ -22,7 +22,7 @@ pub fn settle(ledger: &mut [u8], file: &[u8], result: &mut [u8]) -> u32 {
 fn try_settle(ledger_bytes: &mut [u8], file: &[u8], result: &mut [u8]) -> Result<(), u32> {
     let mut ledger = Ledger::read(ledger_bytes).ok_or(6u32)?;
     let header = Header::read(file).ok_or(7u32)?;
-    ensure(header.terms == ledger.terms, 8)?;
+    ensure(header.terms == ledger.year.terms, 8)?;
     ensure(header.holds(), 9)?;
     ensure(header.interval >= ledger.earliest, 10)?;
     let tables = header.tables(file).ok_or(11u32)?;
@@ -83,10 +83,10 @@ fn try_settle(ledger_bytes: &mut [u8], file: &[u8], result: &mut [u8]) -> Result
 
 /// Charges each row to its account.
 fn charge(ledger: &mut Ledger, places: &[usize], rows: &[Row], figures: &[Figures]) -> Vec<u64> {
-    let terms = ledger.terms;
+    let year = ledger.year;
     let rows = rows.iter().zip(figures).zip(places);
     rows.map(|((row, figures), place)| {
-        ledger.accounts[*place].charge(&terms, row.committed, figures.shortfall)
+        ledger.accounts[*place].charge(&year, row.committed, figures.shortfall)
     })
     .collect()
 }

@@ -7,8 +7,12 @@ use npa_tests::listing::{DAYS, NET_CONE};
 use npa_tests::random::{event_file, four_schedules, rising, Rng};
 use npa_tests::streams::ROW_POINTS;
 
+/// The kW that plant 12 is short in the listing's first file.
+const SHORT_KW: u64 = 18_333;
+
 pub fn cases() -> Vec<EventCase> {
     let mut cases = numbers();
+    cases.extend(limits());
     cases.extend(cuts());
     cases.extend(lengths());
     cases.extend(long_files());
@@ -29,6 +33,28 @@ fn numbers() -> Vec<EventCase> {
         .flat_map(|count| [listings(count), mixed(count)])
         .collect();
     cases.extend([1, 2, 50].map(full_files));
+    cases.extend([1, 2, 50].map(|count| in_year(2016, &listings(count))));
+    cases
+}
+
+/// An event in a ledger of this year.
+fn in_year(year: u64, case: &EventCase) -> EventCase {
+    case.with(|case| case.ledger.words[7] = year)
+}
+
+/// Plant 12 reaches its limit in the second file: its charges are full, cut, and nothing.
+fn limits() -> Vec<EventCase> {
+    let mut cases = Vec::new();
+    for year in [0, 2016, 2018] {
+        for rest in [0, 1] {
+            cases.push(in_year(year, &listings(4)).with(|case| {
+                let terms = case.ledger.terms();
+                let charged = terms.limit(50_000) - terms.full_charge(SHORT_KW) - rest;
+                case.ledger.accounts[1] = [12, 50_000, charged, 0];
+                case.ledger.words[4] = charged;
+            }));
+        }
+    }
     cases
 }
 
@@ -173,6 +199,9 @@ fn any_ledgers() -> Vec<EventCase> {
 mod tests {
     use super::super::answer;
     use super::*;
+    use crate::compare::Call;
+    use npa_tests::layout::long_at;
+    use npa_tests::reference;
 
     /// The grounds of these cases, each once.
     fn grounds(cases: &[EventCase]) -> Vec<u32> {
@@ -189,6 +218,22 @@ mod tests {
         assert_eq!(grounds(&rooms()), [0, 15]);
         assert_eq!(grounds(&counts()), [0, 6, 7, 15, 20, 22]);
         assert_eq!(grounds(&any_ledgers()), [0, 6, 7, 22]);
+    }
+
+    #[test]
+    fn a_limit_is_reached_within_an_event() {
+        for case in limits() {
+            let Call { read, written } = case.call(&mut Rng::new(1));
+            let [mut ledger, mut result, mut count] = written;
+            let answer = reference::event(&mut ledger, &read, &mut result, &mut count);
+            assert_eq!(answer, 0);
+            let charge = |file: usize| long_at(&result[file * result_bytes(4)..], 22).unwrap();
+            let charges = [0, 1, 2, 3].map(charge);
+            let (terms, before) = (case.ledger.terms(), case.ledger.accounts[1][2]);
+            let full = terms.full_charge(SHORT_KW);
+            let wanted = [full, terms.limit(50_000) - before - full, 0, 0];
+            assert_eq!(charges, wanted);
+        }
     }
 
     #[test]

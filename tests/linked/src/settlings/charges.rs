@@ -1,15 +1,20 @@
 //! Charges on both sides of half a cent, and limits that leave a cent less, just as much or a cent more.
 
 use super::settling_of;
-use npa_tests::layout::{full_charge, limit, IntervalFile, Row, CHARGE_DIVISOR, KW_MOST};
+use npa_tests::layout::{IntervalFile, Row, Terms, KW_MOST};
 use npa_tests::random::SettleCase;
 
 pub fn cases() -> Vec<SettleCase> {
     let mut cases = Vec::new();
     for net_cone in [1, 2, 36, 100, 30_000, 36_000, 199_999, 200_000] {
-        for days in [365, 366] {
-            for shortfall in shortfalls(net_cone, days) {
-                cases.extend(left(net_cone, days, shortfall));
+        for (days, year) in [(365, 0), (366, 0), (365, 2016), (365, 2018), (366, 2023)] {
+            let terms = Terms {
+                net_cone,
+                days,
+                year,
+            };
+            for shortfall in shortfalls(&terms) {
+                cases.extend(left(&terms, shortfall));
             }
         }
     }
@@ -18,9 +23,10 @@ pub fn cases() -> Vec<SettleCase> {
 
 /// Shortfalls next to the first whole and half cents, and next to the largest; some are exactly half a cent above
 /// whole ones.
-fn shortfalls(net_cone: u32, days: u32) -> Vec<u32> {
-    let cents = u64::from(net_cone) * u64::from(days);
-    let edges = (1..=6).map(|halves| (halves * CHARGE_DIVISOR / 2).div_ceil(cents) as u32);
+fn shortfalls(terms: &Terms) -> Vec<u32> {
+    let cents = terms.net_cone * terms.days;
+    let half = terms.charge_divisor() / 2;
+    let edges = (1..=6).map(|halves| (halves * half).div_ceil(cents) as u32);
     let exact = [1_000, 3_000, 36_000, KW_MOST - 1].into_iter();
     edges
         .chain(exact)
@@ -29,18 +35,19 @@ fn shortfalls(net_cone: u32, days: u32) -> Vec<u32> {
 }
 
 /// A demand resource that gives nothing, with all of its limit left, or so much that the full charge is cut or not.
-fn left(net_cone: u32, days: u32, shortfall: u32) -> Vec<SettleCase> {
+fn left(terms: &Terms, shortfall: u32) -> Vec<SettleCase> {
     let row = Row {
         id: 11,
         kind: 1,
         committed: shortfall,
         ..Row::default()
     };
+    let [net_cone, days] = [terms.net_cone, terms.days].map(|term| term as u32);
     let file = IntervalFile::new(net_cone, days, 1_000, vec![row.words()], Vec::new());
-    let case = settling_of(&[11], file);
-    let [net_cone, days] = [net_cone, days].map(u64::from);
-    let most = limit(net_cone, days, KW_MOST.into());
-    let full = full_charge(net_cone, days, shortfall.into());
+    let mut case = settling_of(&[11], file);
+    case.ledger.words[7] = terms.year;
+    let most = terms.limit(KW_MOST.into());
+    let full = terms.full_charge(shortfall.into());
     let near = [full.saturating_sub(1), full, full + 1];
     let cut = near.into_iter().filter(|left| *left <= most).map(|left| {
         let mut cut = case.clone();
@@ -60,18 +67,22 @@ mod tests {
 
     #[test]
     fn halves_and_cuts_are_there() {
-        let (mut halves, mut cuts) = (0, 0);
+        // Those of 2016 apart.
+        let (mut halves, mut cuts) = ([0; 2], [0; 2]);
         for case in cases() {
             let mut call = case.call(&mut Rng::new(1));
             let answer = reference::settle(&mut call.ledger, &call.file, &mut call.result);
             assert_eq!(answer, 0);
             let [short, charge] = [12, 14].map(|word| long_at(&call.result, word).unwrap());
-            let [net_cone, days] = [2, 3].map(|word| u64::from(case.file.head[word]));
-            let full = full_charge(net_cone, days, short);
+            let terms = case.ledger.terms();
+            let full = terms.full_charge(short);
             assert!(charge == full || charge + 1 == full);
-            cuts += u32::from(charge < full);
-            halves += u32::from(short * net_cone * days % CHARGE_DIVISOR == CHARGE_DIVISOR / 2);
+            let (own, divisor) = (usize::from(terms.year == 2016), terms.charge_divisor());
+            cuts[own] += u32::from(charge < full);
+            let rest = short * terms.net_cone * terms.days % divisor;
+            halves[own] += u32::from(rest == divisor / 2);
         }
-        assert!(halves > 20 && cuts > 100, "{halves}, {cuts}");
+        assert!(halves.iter().all(|halves| *halves > 10), "{halves:?}");
+        assert!(cuts.iter().all(|cuts| *cuts > 100), "{cuts:?}");
     }
 }

@@ -18,7 +18,7 @@ fn raise(word: &mut u64, value: u64) {
     *word = value.max(*word);
 }
 
-const LEDGER: [Fault; 13] = [
+const LEDGER: [Fault; 16] = [
     (6, |case| case.ledger.length = 0),
     (6, |case| case.ledger.length = 63),
     (6, |case| case.ledger.length = ledger_bytes(4) - 1),
@@ -29,6 +29,9 @@ const LEDGER: [Fault; 13] = [
     (6, |case| case.ledger.words[5] = 5),
     (6, |case| case.ledger.words[6] = 9),
     (6, |case| case.ledger.words[7] = 1),
+    (6, |case| case.ledger.words[7] = 2016), // with 366 days
+    (6, |case| case.ledger.words[7] = 2017),
+    (6, |case| case.ledger.words[7] = (1 << 32) + 2018),
     (6, |case| case.ledger.accounts[0][0] = 0),
     (6, |case| case.ledger.accounts[3][1] = 4_000_001),
     (6, |case| case.ledger.accounts[2][3] += 1),
@@ -140,7 +143,7 @@ pub fn cases() -> Vec<SettleCase> {
 mod tests {
     use super::super::answer;
     use super::*;
-    use npa_tests::random::SETTLING;
+    use npa_tests::random::SETTLING_GROUNDS;
 
     #[test]
     fn each_fault_has_its_ground_and_the_first_of_two_counts() {
@@ -156,7 +159,7 @@ mod tests {
             for (first, one) in faults.iter().enumerate() {
                 for (second, other) in faults.iter().enumerate() {
                     let case = cases.next().expect("a case for every two");
-                    let in_order = SETTLING
+                    let in_order = SETTLING_GROUNDS
                         .into_iter()
                         .find(|ground| [one.0, other.0].contains(ground));
                     assert_eq!(Some(answer(case)), in_order, "{first} {second}");

@@ -1,7 +1,7 @@
 //! Grounds 6, 10 and 16: ledgers on both sides of every bound.
 
 use super::{listing, plain, with};
-use npa_tests::layout::{self, limit, Ledger, POOL_MOST};
+use npa_tests::layout::{self, Ledger, POOL_MOST};
 use npa_tests::random::SettleCase;
 
 const HIGH: u64 = 1 << 32;
@@ -15,6 +15,7 @@ const CHARGES: u64 = 3_727_710;
 pub fn cases() -> Vec<SettleCase> {
     let mut cases = lengths();
     cases.extend(words());
+    cases.extend(years());
     cases.extend(account_counts());
     cases.extend(ids());
     cases.extend(commitments());
@@ -23,6 +24,7 @@ pub fn cases() -> Vec<SettleCase> {
     cases.extend(carried());
     cases.extend(balances());
     cases.extend(pools());
+    cases.extend(pools_of_2016());
     cases.extend(orders());
     cases
 }
@@ -66,6 +68,23 @@ fn words() -> Vec<SettleCase> {
         }
     }
     cases
+}
+
+/// Years at the bounds of those that a ledger can have, and right only in some of their bytes, with either number of
+/// days.
+fn years() -> Vec<SettleCase> {
+    let near = (2014..=2025).chain([0, 1, 2, 16, 23, 255, 256]);
+    let parts = (2014..=2025).flat_map(|year| [year & 0xff, year & 0xff00, year << 8, year << 32]);
+    let bits = [1 << 12, 1 << 16, 1 << 31, HIGH, 1 << 48, TOP];
+    let high = bits.into_iter().flat_map(|high| {
+        let years = [0].into_iter().chain(2014..=2025);
+        years.map(move |year| high + year)
+    });
+    near.chain(parts)
+        .chain(high)
+        .chain([u64::MAX])
+        .flat_map(|year| [365, 366].map(|days| at_year(30_000, days, year)))
+        .collect()
 }
 
 /// The listing's word with bits above those that count.
@@ -130,21 +149,42 @@ fn commitments() -> Vec<SettleCase> {
 
 /// The listing's file at these terms.
 pub fn at_terms(net_cone: u32, days: u32) -> SettleCase {
-    with(&listing(), |case| {
-        case.ledger.words[1] = net_cone.into();
-        case.ledger.words[2] = days.into();
-        (case.file.head[2], case.file.head[3]) = (net_cone, days);
-    })
+    at_year(net_cone, days, 0)
+}
+
+/// The listing's file at these terms, in a ledger of this year.
+pub fn at_year(net_cone: u32, days: u32, year: u64) -> SettleCase {
+    with(&listing(), |case| set_terms(case, net_cone, days, year))
+}
+
+/// Sets the terms of ledger and file, and the ledger's year.
+pub fn set_terms(case: &mut SettleCase, net_cone: u32, days: u32, year: u64) {
+    (case.ledger.words[1], case.ledger.words[2]) = (net_cone.into(), days.into());
+    (case.file.head[2], case.file.head[3]) = (net_cone, days);
+    case.ledger.words[7] = year;
 }
 
 /// Charged sums at the limits of some commitments; the cents are carried or credited.
 fn charged_sums() -> Vec<SettleCase> {
     let mut cases = Vec::new();
-    for (net_cone, days) in [(1, 365), (1, 366), (30_000, 365), (199_999, 365), LARGEST] {
+    for (net_cone, days, year) in [
+        (1, 365, 0),
+        (1, 366, 0),
+        (30_000, 365, 0),
+        (199_999, 365, 0),
+        (LARGEST.0, LARGEST.1, 0),
+        (1, 365, 2016),
+        (3, 365, 2016),
+        (30_000, 365, 2016),
+        (199_999, 365, 2016),
+        (200_000, 365, 2016),
+        (30_000, 365, 2018),
+        (LARGEST.0, LARGEST.1, 2023),
+    ] {
+        let case = at_year(net_cone, days, year);
         for kw in [0, 1, 2, 3, 5, 999, 50_000, KW_MOST - 1, KW_MOST] {
-            let most = limit(net_cone.into(), days.into(), kw);
+            let most = case.ledger.terms().limit(kw);
             for charged in most.saturating_sub(1)..=most + 1 {
-                let case = at_terms(net_cone, days);
                 let account = [0, kw, charged, 0];
                 cases.push(with(&case, |case| {
                     put_account(&mut case.ledger, 1, account)
@@ -174,12 +214,18 @@ pub fn set_carried(ledger: &mut Ledger, carried: u64) {
     ledger.accounts[0][3] = charged - carried;
 }
 
-/// Credited sums at their bound, in a ledger where all is charged that can be.
+/// Credited sums at their bound, and at all that can be charged in 2016.
 fn credited_sums() -> Vec<SettleCase> {
+    let mut cases = credited_in(LARGEST.1, 0);
+    cases.extend(credited_in(365, 2016));
+    cases
+}
+
+/// A credited sum as large as it can be and larger ones, in a ledger where all is charged that can be.
+fn credited_in(days: u32, year: u64) -> Vec<SettleCase> {
     let mut case = plain(512, 1);
-    (case.file.head[2], case.file.head[3]) = LARGEST;
-    (case.ledger.words[1], case.ledger.words[2]) = (LARGEST.0.into(), LARGEST.1.into());
-    let most = limit(LARGEST.0.into(), LARGEST.1.into(), KW_MOST);
+    set_terms(&mut case, LARGEST.0, days, year);
+    let most = case.ledger.terms().limit(KW_MOST);
     for account in &mut case.ledger.accounts {
         (account[1], account[2]) = (KW_MOST, most);
     }
@@ -241,7 +287,7 @@ fn pools() -> Vec<SettleCase> {
     // A charge that the limit cuts: only the rest of it counts.
     for (left, carried) in [(1, POOL_MOST - 1), (1, POOL_MOST), (0, POOL_MOST)] {
         cases.push(with(&carrying(carried), |case| {
-            let most = limit(LARGEST.0.into(), LARGEST.1.into(), 3_000_000);
+            let most = case.ledger.terms().limit(3_000_000);
             case.ledger.accounts[1][2] = most - left;
             set_carried(&mut case.ledger, carried);
         }));
@@ -252,6 +298,20 @@ fn pools() -> Vec<SettleCase> {
         case.file.rows[3][4] = KW_MOST as u32;
     }));
     cases
+}
+
+/// A pool of 2016 at its bound: six accounts carry it, and 40 kW cost 4055.56 cents.
+fn pools_of_2016() -> Vec<SettleCase> {
+    let mut case = plain(6, 1);
+    set_terms(&mut case, LARGEST.0, 365, 2016);
+    for account in &mut case.ledger.accounts {
+        (account[1], account[2]) = (KW_MOST, 200_000_000_000);
+    }
+    let below = POOL_MOST - 4_056;
+    let carried = (below - 1..=below + 1).chain([POOL_MOST, POOL_MOST + 1]);
+    carried
+        .map(|carried| with(&case, |case| set_carried(&mut case.ledger, carried)))
+        .collect()
 }
 
 /// Sums that are off, alone and in pairs that close again.
@@ -322,7 +382,18 @@ mod tests {
         let answers: Vec<u32> = pools().iter().map(answer).collect();
         assert_eq!(answers, [0, 0, 0, 16, 16, 16, 16, 0, 16, 0, 16]);
         let answers: Vec<u32> = credited_sums().iter().map(answer).collect();
-        assert_eq!(answers, [0, 6, 6, 6, 6, 6]);
+        assert_eq!(answers, [0, 6, 6, 6, 6, 6, 0, 6, 6, 6, 6, 6]);
+        let answers: Vec<u32> = pools_of_2016().iter().map(answer).collect();
+        assert_eq!(answers, [0, 0, 16, 16, 6]);
+    }
+
+    #[test]
+    fn years_are_on_both_sides() {
+        let answers: Vec<u32> = years().iter().map(answer).collect();
+        assert!(answers.iter().all(|answer| [0, 6].contains(answer)));
+        // 2016 with 365 days, and six years and none with either number.
+        let accepted = answers.iter().filter(|answer| **answer == 0).count();
+        assert_eq!(accepted, 15);
     }
 
     #[test]
