@@ -231,26 +231,27 @@ fn at_the_limits(year: u32) -> Vec<u8> {
     ])
 }
 
-/// Files of the full year's first intervals, so many; every fourth has four schedules a row.
-fn full_files(count: u32) -> Vec<Vec<u8>> {
-    let world = World::full();
-    let mut rng = Rng::new(1);
-    let mut file = |interval| {
-        let file = world.full_file(&mut rng, interval, ROW_POINTS);
-        match interval % 4 {
-            3 => four_schedules(&mut rng, file).bytes(),
-            _ => file.bytes(),
-        }
-    };
-    (0..count).map(&mut file).collect()
+/// The full year with so many files of its first intervals, all of format 1.
+pub fn full_intervals(count: u32) -> Vec<u8> {
+    full_year(count, |_, file| file)
 }
 
-/// The full year with so many of its files.
-pub fn full_intervals(count: u32) -> Vec<u8> {
+/// The same, every second file in format 2 with four schedules a row.
+fn full_schedules(count: u32) -> Vec<u8> {
+    full_year(count, |rng, file| match file.head[1] % 2 {
+        0 => file,
+        _ => four_schedules(rng, file),
+    })
+}
+
+/// The full year with so many files, each changed.
+fn full_year(count: u32, change: fn(&mut Rng, IntervalFile) -> IntervalFile) -> Vec<u8> {
     let world = World::full();
+    let mut rng = Rng::new(1);
     let mut stream = stream_of(&[&world.block().bytes()]);
-    for file in full_files(count) {
-        push_block(&mut stream, &file);
+    for interval in 0..count {
+        let file = world.full_file(&mut rng, interval, ROW_POINTS);
+        push_block(&mut stream, &change(&mut rng, file).bytes());
     }
     stream
 }
@@ -267,7 +268,7 @@ pub fn long(rng: &mut Rng) -> Vec<Case> {
         Case::new("120000 empty blocks", empty),
         Case::new("6000 accepted files", accepted),
         Case::new("4000 files, accepted and refused", mixed(rng)),
-        Case::new("40 full files", full_intervals(40)),
+        Case::new("40 full files of both formats", full_schedules(40)),
     ]
 }
 
