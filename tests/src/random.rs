@@ -6,6 +6,7 @@
 mod damage;
 mod event;
 mod event_calls;
+mod offers;
 mod world;
 mod years;
 
@@ -421,14 +422,14 @@ fn settle_counts_fit(call: &SettleCall, size: &Size) -> bool {
     }
     let word = |at| word_at(&call.file, at).unwrap_or(0);
     let fits = |at| word(at) <= size.count;
-    let (rows, schedules) = match Format::of(&call.file) {
-        Format::One => (word(24), 0),
-        Format::Two => (word(24), word(40)),
+    let schedules = match Format::of(&call.file) {
+        Format::One => 0,
+        Format::Two => word(40),
     };
     let schedule_at = |number| word(44) as usize + SCHEDULE_BYTES * number;
     long_at(&call.ledger, 5).unwrap_or(0) <= size.count.into()
         && [24, 32].into_iter().all(fits)
         && schedules <= size.count
-        && (0..rows as usize).all(|number| fits(row_at(&call.file, number) + 52))
+        && (0..word(24) as usize).all(|number| fits(row_at(&call.file, number) + 52))
         && (0..schedules as usize).all(|number| fits(schedule_at(number) + 8))
 }

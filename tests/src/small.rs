@@ -77,8 +77,8 @@ fn in_turn(grounds: &[u32], number: u64) -> u32 {
     grounds[number as usize % grounds.len()]
 }
 
-/// So many calls of opening and settling; every fourth opens, one in 200 has a length at a limit, and one in 400 a ledger
-/// of no year.
+/// So many calls of opening and settling; every fourth opens, one in 200 has a length at a limit, and one in 400 has a
+/// ledger of no year.
 pub fn cases(seed: u64, count: u64) -> Vec<Case> {
     let mut rng = Rng::new(seed);
     let mut year = RunningYear::open(&mut rng, &SMALL);

@@ -1,129 +1,15 @@
 //! Delivery years, and what is valid in them: openings, ledgers, files, and settlings to accept.
 
+use super::offers::{Offer, Offers, Stretch};
 use super::{first_made, OpenCase, Rng, SettleCase, Size};
 use crate::layout::{
     self, ledger_bytes, long_at, result_bytes, Format, IntervalFile, Ledger, Opening, Row, Terms,
-    COST, DAY_INTERVALS, HALVED_YEAR, IDS_MOST, IMPORTS_MOST, KW_MOST, MARKET, POINTS_MOST,
-    POOL_MOST, ROW_SCHEDULES_MOST, SCHEDULES_MOST, YEARS,
+    DAY_INTERVALS, HALVED_YEAR, IDS_MOST, IMPORTS_MOST, KW_MOST, POINTS_MOST, POOL_MOST, YEARS,
 };
 use crate::reference;
 
 /// The bound of prices, for sums with it.
 const PRICE_MOST: i64 = layout::PRICE_MOST as i64;
-
-/// Entries of a table that follow each other: the first and how many.
-type Stretch = (usize, usize);
-
-/// What the rows of one file may name.
-struct Offers {
-    points: Vec<[u32; 2]>,
-    /// The stretches of points that are curves.
-    curves: Vec<Stretch>,
-    schedules: Vec<[u32; 3]>,
-    /// In format 2, the stretches of schedules for a row.
-    groups: Option<Vec<Stretch>>,
-}
-
-/// What one row names: its words 12 to 14, and a curve that its LMP and limits are near.
-struct Offer<'a> {
-    first: usize,
-    count: usize,
-    dispatched: usize,
-    /// Whether there are other schedules beside the one dispatched on.
-    several: bool,
-    curve: &'a [[u32; 2]],
-}
-
-impl Offers {
-    /// Points alone, or with schedules.
-    fn any(rng: &mut Rng, size: &Size, rows: usize, world: &World) -> Self {
-        let (points, curves) = world.points(rng, size, rows);
-        let mut offers = Offers {
-            points,
-            curves,
-            schedules: Vec::new(),
-            groups: None,
-        };
-        if rng.one_in(2) {
-            offers.put_schedules(rng, size, rows);
-        }
-        offers
-    }
-
-    /// Schedules of all kinds, so many together for a row as it may have; some between them hold any words.
-    fn put_schedules(&mut self, rng: &mut Rng, size: &Size, rows: usize) {
-        let (mut schedules, mut groups) = (Vec::new(), Vec::new());
-        let most = size.curves.min(rows + 1);
-        let wanted = if self.curves.is_empty() {
-            0
-        } else {
-            1 + rng.index(most)
-        };
-        for _ in 0..wanted {
-            if rng.one_in(5) {
-                schedules.push([rng.draw() as u32, rng.draw() as u32, size.any_count(rng)]);
-            }
-            let count = 1 + rng.index(ROW_SCHEDULES_MOST);
-            if schedules.len() + count > SCHEDULES_MOST {
-                break;
-            }
-            groups.push((schedules.len(), count));
-            for _ in 0..count {
-                let kind = rng.between(MARKET.into(), COST.into()) as u32;
-                let (first, points) = part(rng, &self.curves);
-                schedules.push([kind, first as u32, points as u32]);
-            }
-        }
-        schedules.truncate(SCHEDULES_MOST);
-        (self.schedules, self.groups) = (schedules, Some(groups));
-    }
-
-    /// What a row names, by chance.
-    fn some(&self, rng: &mut Rng) -> Offer<'_> {
-        let Some(groups) = &self.groups else {
-            return self.one_curve(stretch(rng, &self.curves));
-        };
-        let (first, count) = stretch(rng, groups);
-        let dispatched = rng.index(count.max(1));
-        let near = match count {
-            0 => (0, 0),
-            _ => {
-                let any = first + rng.index(count);
-                let schedule = rng.pick(&[any, first + dispatched]);
-                let [_, first, points] = self.schedules[schedule];
-                (first as usize, points as usize)
-            }
-        };
-        Offer {
-            first,
-            count,
-            dispatched,
-            several: count > 1,
-            ..self.one_curve(near)
-        }
-    }
-
-    /// A stretch of points that a row of format 1 names.
-    fn one_curve(&self, (first, count): Stretch) -> Offer<'_> {
-        Offer {
-            first,
-            count,
-            dispatched: 0,
-            several: false,
-            curve: &self.points[first..first + count],
-        }
-    }
-
-    /// The file of these rows.
-    fn file(self, world: &World, interval: u32, rows: Vec<Row>) -> IntervalFile {
-        let rows = rows.iter().map(Row::words).collect();
-        let file = IntervalFile::new(world.net_cone, world.days, interval, rows, self.points);
-        match self.groups {
-            None => file,
-            Some(_) => file.with_schedules(self.schedules),
-        }
-    }
-}
 
 /// What the valid cases of one delivery year have in common.
 #[derive(Clone, Debug)]
@@ -382,7 +268,12 @@ impl World {
     }
 
     /// A table of points and the stretches in it that are curves.
-    fn points(&self, rng: &mut Rng, size: &Size, rows: usize) -> (Vec<[u32; 2]>, Vec<Stretch>) {
+    pub(super) fn points(
+        &self,
+        rng: &mut Rng,
+        size: &Size,
+        rows: usize,
+    ) -> (Vec<[u32; 2]>, Vec<Stretch>) {
         let mut points = Vec::new();
         let mut curves = Vec::new();
         let most = size.curves.min(rows + 1);
@@ -467,8 +358,8 @@ impl World {
         row
     }
 
-    /// Makes a row one that could give more than it does, at a price around the begin of the curve, so that its schedules
-    /// decide what is excused.
+    /// Makes a row one that could give more than it does, at a price where the curve begins, so that its schedules decide
+    /// what is excused.
     fn hold_back(&self, rng: &mut Rng, row: &mut Row, curve: &[[u32; 2]]) {
         let first = i64::from(curve[0][0] as i32);
         row.lmp = (first - rng.between(0, 1)).max(-PRICE_MOST) as i32;
@@ -593,24 +484,6 @@ pub(super) fn spread_credits(rng: &mut Rng, ledger: &mut Ledger, sum: u64) {
     }
     let index = rng.index(ledger.accounts.len());
     ledger.accounts[index][3] += rest;
-}
-
-/// One of the stretches, a part of one, or nothing.
-fn stretch(rng: &mut Rng, stretches: &[Stretch]) -> Stretch {
-    if stretches.is_empty() || rng.one_in(6) {
-        return (0, 0);
-    }
-    part(rng, stretches)
-}
-
-/// One of the stretches or a part of one, of at least one entry.
-fn part(rng: &mut Rng, stretches: &[Stretch]) -> Stretch {
-    let (start, count) = rng.pick(stretches);
-    if rng.one_in(4) {
-        let skipped = rng.index(count);
-        return (start + skipped, 1 + rng.index(count - skipped));
-    }
-    (start, count)
 }
 
 /// An LMP at or next to a point, on the curve, at the limits or anywhere.

@@ -79,7 +79,7 @@ fn cut_to(case: &mut EventCase, index: usize, bytes: usize) {
     case.tail = whole[..bytes].to_vec();
 }
 
-/// A file in which nobody is short and nobody has bonus; its figures are those of its number, and every second is one of
+/// A file in which nobody is short and nobody has bonus; its figures are those of its number, and every second has
 /// format 2.
 fn quiet_file(number: u32) -> IntervalFile {
     let row = |id: u32| {

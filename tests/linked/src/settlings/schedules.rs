@@ -212,8 +212,8 @@ fn kinds_of_schedules() -> Vec<Vec<u32>> {
     lists
 }
 
-/// Rows with every list of kinds, dispatched on each of its schedules, at LMPs around the curves' points, online and not,
-/// for each kind of row that has a curve; the curves rise along the list or fall.
+/// Rows with every list of kinds, dispatched on each of its schedules, at LMPs around the curves' points, online and
+/// not, for each kind of row that has a curve; the curves rise along the list or fall.
 fn dispatches() -> Vec<SettleCase> {
     let mut cases = Vec::new();
     for (kind, metered) in [(0, 10_000), (0, 200_000), (4, 200_000), (3, 200_000)] {
