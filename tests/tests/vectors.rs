@@ -2,6 +2,7 @@
 
 use npa_tests::layout::{hex, ledger_bytes, result_bytes, stream_of};
 use npa_tests::listing;
+use npa_tests::random::SETTLING_GROUNDS;
 use npa_tests::reference::{event, npalist, open, settle};
 use npa_tests::streams::document;
 use npa_tests::vectors::{vector, vectors, Operation, FILES, FOLDER};
@@ -57,6 +58,9 @@ fn the_reference_gives_every_case() {
     }
     for ground in [1, 2, 23, 3, 4, 5] {
         assert!(grounds.contains(&("open", ground)), "open: {ground}");
+    }
+    for ground in SETTLING_GROUNDS {
+        assert!(grounds.contains(&("settle", ground)), "settle: {ground}");
     }
 }
 
