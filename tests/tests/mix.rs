@@ -90,15 +90,12 @@ fn every_ground_is_met_in_every_size() {
             }
         }
         let accepted = [1, 2].map(|format| settled[&(format, 0)]);
-        assert!(10 * opened[&0] > 3 * calls, "{opened:?}");
         assert!(
             accepted.iter().all(|accepted| 10 * accepted > calls),
             "{accepted:?}"
         );
-        assert!(
-            10 * accepted.iter().sum::<usize>() > 3 * calls,
-            "{accepted:?}"
-        );
+        let all = opened[&0] + accepted.iter().sum::<usize>();
+        assert!(5 * all > 2 * 2 * calls, "enough accepted: {all}");
     }
 }
 
