@@ -178,7 +178,7 @@ int main(void)
     refuse_second(0, 0, NPA_REFUSED_FILE);
     refuse_second(0, 2 * STEP, NPA_REFUSED_LENGTH);
     refuse_second(0, UINT32_MAX, NPA_REFUSED_LENGTH);
-    refuse_second(1 + NPA_FILE_FORMAT, 2, NPA_REFUSED_FILE);
+    refuse_second(1 + NPA_FILE_FORMAT, 3, NPA_REFUSED_FILE);
     refuse_second(1 + NPA_FILE_INTERVAL, 1000, NPA_REFUSED_PAST);
     refuse_second(11 + NPA_ROW_KIND, 5, NPA_REFUSED_ROW);
     for (i = 0; i < NPA_COUNT_BYTES; i++) {

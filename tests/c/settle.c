@@ -168,7 +168,7 @@ static const struct refusal REFUSALS[] = {
     {NPA_REFUSED_LEDGER, 1, 0, 2},
     {NPA_REFUSED_LEDGER, 1, 4, 1},
     {NPA_REFUSED_LEDGER, 1, 7, 1},
-    {NPA_REFUSED_FILE, 0, 0, 2},
+    {NPA_REFUSED_FILE, 0, 0, 3},
     {NPA_REFUSED_OTHER_TERMS, 0, 2, 30001},
     {NPA_REFUSED_OTHER_TERMS, 0, 3, 366},
     {NPA_REFUSED_EVENT, 0, 1, 105120},

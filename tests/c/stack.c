@@ -10,11 +10,12 @@
 #define EVENT_FILES 3
 
 static uint8_t block[FULL_BLOCK_LEN];
-static uint8_t file[FULL_FILE_LEN];
+static uint8_t file[FULL_FILE_2_LEN];
+static size_t file_len = FULL_FILE_LEN;
 static uint8_t ledger[NPA_LEDGER_BYTES(NPA_IDS_MOST)];
 static uint8_t result[NPA_RESULT_BYTES(NPA_ROWS_MOST)];
 static size_t result_len = sizeof result;
-static uint8_t files[EVENT_FILES * (NPA_LENGTH_BYTES + FULL_FILE_LEN)];
+static uint8_t files[EVENT_FILES * (NPA_LENGTH_BYTES + FULL_FILE_2_LEN)];
 static uint8_t results[EVENT_FILES * NPA_RESULT_BYTES(NPA_ROWS_MOST)];
 static uint8_t count[NPA_COUNT_BYTES];
 static size_t files_len = sizeof files;
@@ -26,7 +27,7 @@ static uint32_t open_full(void)
 
 static uint32_t settle_full(void)
 {
-    return npa_settle(ledger, sizeof ledger, file, sizeof file, result, result_len);
+    return npa_settle(ledger, sizeof ledger, file, file_len, result, result_len);
 }
 
 static uint32_t settle_event(void)
@@ -68,24 +69,45 @@ static size_t event_used(uint32_t interval)
     uint32_t i;
 
     for (i = 0; i < EVENT_FILES; i++) {
-        uint8_t *at = files + i * (NPA_LENGTH_BYTES + FULL_FILE_LEN);
-        npa_put32(at, 0, FULL_FILE_LEN);
-        write_full_file(at + NPA_LENGTH_BYTES, interval + i, interval + i);
+        uint8_t *at = files + i * (NPA_LENGTH_BYTES + FULL_FILE_2_LEN);
+        npa_put32(at, 0, FULL_FILE_2_LEN);
+        write_full_file_2(at + NPA_LENGTH_BYTES, interval + i, interval + i);
     }
     accepted = used("answer to an event", settle_event, NPA_OK);
     hold("files settled", 0, npa_get64(count, 0), EVENT_FILES);
     refused = used("answer to an event again", settle_event, NPA_REFUSED_PAST);
-    files_len = FULL_FILE_LEN;
+    files_len = FULL_FILE_2_LEN;
     cut = used("answer to an event that is cut", settle_event, NPA_REFUSED_LENGTH);
     most = accepted > refused ? accepted : refused;
     return most > cut ? most : cut;
 }
 
+/* The most that settling files of format 2 uses, from this interval on: to accept, and to refuse in the last row. */
+static size_t format_2_used(uint32_t interval)
+{
+    uint8_t *last = file + HEADER_2_BYTES + ROW_2_BYTES * (NPA_ROWS_MOST - 1);
+    uint8_t *schedule = file + FULL_FILE_2_LEN - SCHEDULE_BYTES;
+    size_t most = 0;
+
+    file_len = FULL_FILE_2_LEN;
+    write_full_file_2(file, interval, interval);
+    most = settled(most, NPA_OK);
+    write_full_file_2(file, interval + 1, interval);
+    npa_put32(last, ROW_DISPATCHED, ROW_SCHEDULES_MOST);
+    most = settled(most, REFUSED_SCHEDULES);
+    write_full_file_2(file, interval + 1, interval);
+    npa_put32(last, ROW_FIRST_SCHEDULE, SCHEDULES_MOST - ROW_SCHEDULES_MOST);
+    npa_put32(schedule, SCHEDULE_POINTS, NPA_ROW_POINTS_MOST + 1);
+    most = settled(most, NPA_REFUSED_POINTS);
+    file_len = FULL_FILE_LEN;
+    return most;
+}
+
 int main(void)
 {
     const size_t rows = NPA_FILE_HEADER_BYTES;
-    const size_t last_point = sizeof file - NPA_POINT_BYTES;
-    size_t opening, event, settling = 0;
+    const size_t last_point = FULL_FILE_LEN - NPA_POINT_BYTES;
+    size_t opening, event, format_2, settling = 0;
     uint32_t interval;
 
     write_full_block(block);
@@ -97,6 +119,9 @@ int main(void)
     settling = settled(settling, NPA_REFUSED_PAST);
     event = event_used(interval);
     interval += EVENT_FILES;
+    format_2 = format_2_used(interval);
+    settling = format_2 > settling ? format_2 : settling;
+    interval++;
 
     /* Refusals far into the file: in the last row, its points, the room for the result. */
     write_full_file(file, interval, interval);

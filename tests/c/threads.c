@@ -1,6 +1,6 @@
 /*
- * Calls on different ledgers at once: each thread settles files of its own into a ledger of its own, and every ledger
- * and result must be what the same calls gave one after the other.
+ * Calls on different ledgers at once: each thread settles files of its own, of both formats by turns, into a ledger of
+ * its own, and every ledger and result must be what the same calls gave one after the other.
  */
 #include "full.h"
 
@@ -11,7 +11,7 @@
 
 struct year {
     uint32_t salt;
-    uint8_t file[FULL_FILE_LEN];
+    uint8_t file[FULL_FILE_2_LEN];
     uint8_t ledger[NPA_LEDGER_BYTES(NPA_IDS_MOST)];
     uint8_t results[FILES][NPA_RESULT_BYTES(NPA_ROWS_MOST)];
 };
@@ -24,9 +24,10 @@ static void *settle_year(void *argument)
     uint32_t i;
 
     for (i = 0; i < FILES; i++) {
-        write_full_file(year->file, i, year->salt + i);
+        size_t length = i % 2 == 0 ? FULL_FILE_LEN : FULL_FILE_2_LEN;
+        (i % 2 == 0 ? write_full_file : write_full_file_2)(year->file, i, year->salt + i);
         hold("answer to file", i,
-             npa_settle(year->ledger, sizeof year->ledger, year->file, sizeof year->file, year->results[i],
+             npa_settle(year->ledger, sizeof year->ledger, year->file, length, year->results[i],
                         sizeof year->results[i]),
              NPA_OK);
     }

@@ -3,7 +3,7 @@
 
 use crate::layout::hex;
 use crate::program::{Closed, Input, Output, Program, Unread};
-use crate::random::Rng;
+use crate::random::{Rng, SETTLING_GROUNDS};
 use crate::streams::Case;
 use crate::vectors::{vectors, Operation, Print};
 use std::collections::{BTreeMap, HashSet};
@@ -48,7 +48,9 @@ pub fn line_sort(line: &str) -> Option<String> {
 /// The sorts of lines that both programs can print: refusals on every ground that a stream can show, and cuts.
 pub fn common_sorts() -> Vec<String> {
     let openings = (1..=4).map(|ground| format!("refused,0,{ground}"));
-    let grounds = (7..=16).filter(|ground| *ground != 15);
+    let grounds = SETTLING_GROUNDS
+        .iter()
+        .filter(|ground| ![6, 15].contains(*ground));
     let files = grounds.map(|ground| format!("refused,_,{ground}"));
     let cuts = ["cut,0", "cut"].map(str::to_string);
     openings.chain(files).chain(cuts).collect()

@@ -4,22 +4,28 @@
 //! them against what is really there. What does not fit is not written.
 //! Sizes and limits stand here once; the reference has its own.
 
-/// The bytes of an opening block before any ids, without and with a year, of a header, a row and a point.
+/// The bytes of an opening block before any ids, without and with a year, of a point and of a schedule.
 pub const OPENING_BYTES: usize = 20;
 pub const YEAR_OPENING_BYTES: usize = 24;
-pub const HEADER_BYTES: usize = 40;
-pub const ROW_BYTES: usize = 56;
 pub const POINT_BYTES: usize = 8;
+pub const SCHEDULE_BYTES: usize = 12;
 
-/// The longest opening block and the longest file.
+/// The longest opening block and the longest file of either format.
 pub const BLOCK_MOST: usize = 4096;
-pub const FILE_MOST: usize = 49_152;
+pub const FILE_MOST: usize = Format::Two.most();
 
-/// The most ids of a block, rows of a file, points of a file and points of a row.
+/// The most ids of a block; rows, points and schedules of a file; points of a curve; and schedules of a row.
 pub const IDS_MOST: usize = 512;
 pub const ROWS_MOST: usize = 512;
 pub const POINTS_MOST: usize = 2048;
-pub const ROW_POINTS_MOST: usize = 10;
+pub const SCHEDULES_MOST: usize = 1024;
+pub const CURVE_POINTS_MOST: usize = 10;
+pub const ROW_SCHEDULES_MOST: usize = 4;
+
+/// The kinds of a schedule.
+pub const MARKET: u32 = 1;
+pub const PLS: u32 = 2;
+pub const COST: u32 = 3;
 
 /// The largest Net CONE, in cents per MW-day.
 pub const NET_CONE_MOST: u32 = 200_000;
@@ -265,6 +271,75 @@ impl Ledger {
     }
 }
 
+/// How the bytes of an interval file are laid out.
+#[derive(Clone, Copy, Debug, PartialEq)]
+pub enum Format {
+    One,
+    Two,
+}
+
+impl Format {
+    pub const BOTH: [Format; 2] = [Format::One, Format::Two];
+
+    /// The layout by which a file is read: that of its first word, 1 where there is no such format.
+    pub fn of(file: &[u8]) -> Self {
+        match word_at(file, 0) {
+            Some(2) => Format::Two,
+            _ => Format::One,
+        }
+    }
+
+    /// Word 0 of a file.
+    pub const fn word(self) -> u32 {
+        match self {
+            Format::One => 1,
+            Format::Two => 2,
+        }
+    }
+
+    /// The words of a header.
+    const fn header_words(self) -> usize {
+        match self {
+            Format::One => 10,
+            Format::Two => 12,
+        }
+    }
+
+    /// The words of a row.
+    const fn row_words(self) -> usize {
+        match self {
+            Format::One => 14,
+            Format::Two => 15,
+        }
+    }
+
+    /// The tables of a file: rows and points, and schedules.
+    pub const fn tables(self) -> usize {
+        match self {
+            Format::One => 2,
+            Format::Two => 3,
+        }
+    }
+
+    /// The bytes of a header, which are the least of a file.
+    pub const fn header_bytes(self) -> usize {
+        4 * self.header_words()
+    }
+
+    /// The bytes of a row.
+    pub const fn row_bytes(self) -> usize {
+        4 * self.row_words()
+    }
+
+    /// The most bytes of a file.
+    pub const fn most(self) -> usize {
+        match self {
+            Format::One => 49_152,
+            Format::Two => 61_440,
+        }
+    }
+}
+
 /// One row of an interval file, by names.
 #[derive(Clone, Copy, Debug, Default)]
 pub struct Row {
@@ -280,13 +355,19 @@ pub struct Row {
     pub minimum: u32,
     pub online: u32,
     pub lmp: i32,
+    /// Of points in format 1, of schedules in format 2.
     pub first: u32,
     pub count: u32,
+    /// Of format 2 alone.
+    pub dispatched: u32,
 }
 
+/// The words of a row; format 1 has no use for the last.
+pub type RowWords = [u32; 15];
+
 impl Row {
-    /// The fourteen words of the row.
-    pub fn words(&self) -> [u32; 14] {
+    /// The words of the row.
+    pub fn words(&self) -> RowWords {
         [
             self.id,
             self.kind,
@@ -302,6 +383,7 @@ impl Row {
             self.lmp as u32,
             self.first,
             self.count,
+            self.dispatched,
         ]
     }
 }
@@ -314,38 +396,65 @@ pub fn point(price: i32, kw: u32) -> [u32; 2] {
 /// An interval file.
 #[derive(Clone, Debug)]
 pub struct IntervalFile {
-    pub head: [u32; 10],
-    pub rows: Vec<[u32; 14]>,
+    /// How its bytes are laid out, whatever word 0 says.
+    pub format: Format,
+    /// Format 1 has no use for the last two words.
+    pub head: [u32; 12],
+    pub rows: Vec<RowWords>,
     pub points: Vec<[u32; 2]>,
+    /// Kind, first point and number of points; written in format 2 alone.
+    pub schedules: Vec<[u32; 3]>,
     pub rows_at: usize,
     pub points_at: usize,
+    pub schedules_at: usize,
     pub length: usize,
 }
 
 impl IntervalFile {
-    /// A file without region-wide event, rows behind the header, points behind the rows.
+    /// A file of format 1 without region-wide event, its tables behind the header, each behind the one before.
     pub fn new(
         net_cone: u32,
         days: u32,
         interval: u32,
-        rows: Vec<[u32; 14]>,
+        rows: Vec<RowWords>,
         points: Vec<[u32; 2]>,
     ) -> Self {
         let mut file = IntervalFile {
-            head: [1, interval, net_cone, days, 0, 0, 0, 0, 0, 0],
+            format: Format::One,
+            head: [1, interval, net_cone, days, 0, 0, 0, 0, 0, 0, 0, 0],
             rows,
             points,
+            schedules: Vec::new(),
             rows_at: 0,
             points_at: 0,
+            schedules_at: 0,
             length: 0,
         };
         file.place_plainly();
         file
     }
 
+    /// The same rows and points in format 2, the rows' words as they are, with these schedules.
+    pub fn with_schedules(mut self, schedules: Vec<[u32; 3]>) -> Self {
+        (self.format, self.head[0]) = (Format::Two, Format::Two.word());
+        self.schedules = schedules;
+        self.place_plainly();
+        self
+    }
+
+    /// The file of format 1 in format 2: each row with points has a market schedule, on which it was dispatched.
+    pub fn in_format_2(mut self) -> Self {
+        let mut schedules = Vec::new();
+        for row in self.rows.iter_mut().filter(|row| row[13] > 0) {
+            schedules.push([MARKET, row[12], row[13]]);
+            (row[12], row[13]) = (schedules.len() as u32 - 1, 1);
+        }
+        self.with_schedules(schedules)
+    }
+
     /// The bytes of the rows.
     pub fn row_bytes(&self) -> usize {
-        ROW_BYTES * self.rows.len()
+        self.format.row_bytes() * self.rows.len()
     }
 
     /// The bytes of the points.
@@ -353,13 +462,41 @@ impl IntervalFile {
         POINT_BYTES * self.points.len()
     }
 
-    /// Puts the rows behind the header and the points behind the rows.
-    pub fn place_plainly(&mut self) {
-        let points_at = HEADER_BYTES + self.row_bytes();
-        self.place(HEADER_BYTES, points_at, points_at + self.point_bytes());
+    /// The bytes of the schedules; format 1 has none.
+    pub fn schedule_bytes(&self) -> usize {
+        match self.format {
+            Format::One => 0,
+            Format::Two => SCHEDULE_BYTES * self.schedules.len(),
+        }
     }
 
-    /// Puts both tables at offsets and says so in the header.
+    /// The bytes of rows, points and schedules.
+    pub fn table_bytes(&self) -> [usize; 3] {
+        [self.row_bytes(), self.point_bytes(), self.schedule_bytes()]
+    }
+
+    /// Puts the rows behind the header, the points behind the rows and the schedules behind the points.
+    pub fn place_plainly(&mut self) {
+        self.place_from(self.format.header_bytes());
+    }
+
+    /// Puts rows, points and schedules behind each other from an offset on.
+    pub fn place_from(&mut self, rows_at: usize) {
+        let [rows, points, schedules] = self.table_bytes();
+        let points_at = rows_at + rows;
+        let schedules_at = points_at + points;
+        self.place_three([rows_at, points_at, schedules_at], schedules_at + schedules);
+    }
+
+    /// Puts rows, points and schedules at offsets and says so in the header.
+    pub fn place_three(&mut self, [rows_at, points_at, schedules_at]: [usize; 3], length: usize) {
+        self.place(rows_at, points_at, length);
+        self.schedules_at = schedules_at;
+        self.head[10] = self.schedules.len() as u32;
+        self.head[11] = schedules_at as u32;
+    }
+
+    /// Puts rows and points at offsets and says so in the header.
     pub fn place(&mut self, rows_at: usize, points_at: usize, length: usize) {
         self.rows_at = rows_at;
         self.points_at = points_at;
@@ -377,14 +514,37 @@ impl IntervalFile {
 
     /// The file, with gaps as they are in the buffer.
     pub fn over(&self, mut buffer: Vec<u8>) -> Vec<u8> {
-        for (index, point) in self.points.iter().enumerate() {
-            put_words(&mut buffer, self.points_at + POINT_BYTES * index, point);
+        let format = self.format;
+        if format == Format::Two {
+            put_entries(
+                &mut buffer,
+                self.schedules_at,
+                SCHEDULE_BYTES,
+                &self.schedules,
+            );
         }
-        for (index, row) in self.rows.iter().enumerate() {
-            put_words(&mut buffer, self.rows_at + ROW_BYTES * index, row);
-        }
-        put_words(&mut buffer, 0, &self.head);
+        put_entries(&mut buffer, self.points_at, POINT_BYTES, &self.points);
+        let rows: Vec<&[u32]> = self
+            .rows
+            .iter()
+            .map(|row| &row[..format.row_words()])
+            .collect();
+        put_entries(&mut buffer, self.rows_at, format.row_bytes(), &rows);
+        put_words(&mut buffer, 0, &self.head[..format.header_words()]);
         buffer
+    }
+}
+
+/// Where the row with this number begins in a file, by its format and header.
+pub fn row_at(file: &[u8], number: usize) -> usize {
+    let rows_at = word_at(file, 28).unwrap_or(0) as usize;
+    rows_at + Format::of(file).row_bytes() * number
+}
+
+/// Writes the entries of a table, each of so many bytes.
+fn put_entries(buffer: &mut [u8], at: usize, bytes: usize, entries: &[impl AsRef<[u32]>]) {
+    for (index, entry) in entries.iter().enumerate() {
+        put_words(buffer, at + bytes * index, entry.as_ref());
     }
 }
 

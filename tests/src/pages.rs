@@ -1,8 +1,8 @@
 //! Inputs for the program npapage, and a page made a second way: out of the whole listing.
 
 use crate::layout::{
-    push_block, stream_of, word_at, IntervalFile, Opening, Row, Terms, FILE_MOST, IDS_MOST,
-    KW_MOST, ROW_BYTES,
+    push_block, row_at, stream_of, word_at, IntervalFile, Opening, Row, Terms, FILE_MOST, IDS_MOST,
+    KW_MOST,
 };
 use crate::listing::{DAYS, NET_CONE};
 use crate::random::{self, Rng, SMALL};
@@ -85,7 +85,7 @@ fn largest_commitment(stream: &[u8], listing: &str, id: u32) -> u32 {
 /// The commitment of the plant's row in an accepted file; 0 if it has none.
 fn commitment(file: &[u8], id: u32) -> u32 {
     let word = |at| word_at(file, at).expect("an accepted file has its words");
-    let mut rows = (0..word(24) as usize).map(|index| word(28) as usize + ROW_BYTES * index);
+    let mut rows = (0..word(24) as usize).map(|index| row_at(file, index));
     rows.find(|at| word(*at) == id).map_or(0, |at| word(at + 8))
 }
 

@@ -6,11 +6,14 @@
 mod damage;
 mod event;
 mod event_calls;
+mod offers;
 mod world;
 mod years;
 
-pub use self::event::event_file;
-pub use self::event_calls::{accepted_event, event_call, event_of_one, refused_event, small_event};
+pub use self::event::{event_file, four_schedules};
+pub use self::event_calls::{
+    accepted_event, event_call, event_of_one, refused_alone, refused_event, small_event,
+};
 pub use self::world::{rising, some_of, valid_open, valid_settle, World};
 pub use self::years::{stream, year, RunningYear, Year};
 
@@ -19,8 +22,8 @@ pub(crate) use self::damage::{damage_settle, damaged_open};
 use self::damage::{damage_open, damaged_settle};
 use self::world::pool_at_limit;
 use crate::layout::{
-    long_at, word_at, IntervalFile, Ledger, Opening, BLOCK_MOST, FILE_MOST, IDS_MOST, ROWS_MOST,
-    ROW_BYTES, ROW_POINTS_MOST,
+    long_at, row_at, word_at, Format, IntervalFile, Ledger, Opening, BLOCK_MOST, CURVE_POINTS_MOST,
+    FILE_MOST, IDS_MOST, ROWS_MOST, SCHEDULE_BYTES,
 };
 use crate::reference;
 
@@ -118,7 +121,7 @@ pub struct Size {
     rows: usize,
     /// Most points of a curve.
     row_points: usize,
-    /// Most curves of a file.
+    /// Most curves of a file, and most groups of schedules.
     curves: usize,
     /// Most bytes of one gap.
     gap: usize,
@@ -154,7 +157,7 @@ pub const MIDDLE: Size = Size {
 pub const FULL: Size = Size {
     ids: IDS_MOST,
     rows: ROWS_MOST,
-    row_points: ROW_POINTS_MOST,
+    row_points: CURVE_POINTS_MOST,
     curves: 400,
     gap: 400,
     count: u32::MAX,
@@ -170,6 +173,11 @@ impl Size {
             .filter(|c| *c <= self.count)
             .collect();
         rng.pick(&allowed)
+    }
+
+    /// Any count that is not too large.
+    fn any_count(&self, rng: &mut Rng) -> u32 {
+        rng.below(u64::from(self.count) + 1) as u32
     }
 
     /// The bytes of one gap, often none.
@@ -252,7 +260,7 @@ impl SettleCase {
 
 /// The grounds of opening and of settling, in checking order.
 pub const OPENING_GROUNDS: [u32; 6] = [1, 2, 23, 3, 4, 5];
-pub const SETTLING_GROUNDS: [u32; 11] = [6, 7, 8, 9, 10, 11, 12, 13, 14, 15, 16];
+pub const SETTLING_GROUNDS: [u32; 12] = [6, 7, 8, 9, 10, 11, 12, 13, 18, 14, 15, 16];
 
 /// An opening with faults of two grounds, to test the order.
 fn doubly_damaged_open(rng: &mut Rng, size: &Size) -> OpenCase {
@@ -387,10 +395,18 @@ pub fn long_open(rng: &mut Rng, size: &Size) -> OpenCall {
     case.call(rng)
 }
 
-/// A file at the length limit, tables somewhere in it.
+/// A file at the length limit of its format or of both, tables somewhere in it.
 pub fn long_settle(rng: &mut Rng, size: &Size) -> SettleCall {
     let mut case = valid_settle(rng, size);
-    case.file.length = rng.pick(&[FILE_MOST, FILE_MOST + 1]);
+    let own = case.file.format.most();
+    case.file.length = rng.pick(&[own, own, own + 1, FILE_MOST, FILE_MOST + 1]);
+    case.call(rng)
+}
+
+/// A settling into a ledger of a year that there is not.
+pub fn settle_in_no_year(rng: &mut Rng, size: &Size) -> SettleCall {
+    let mut case = valid_settle(rng, size);
+    case.ledger.words[7] = rng.pick(&[1, 2015, 2017, 2024, 2016 << 32]);
     case.call(rng)
 }
 
@@ -399,16 +415,21 @@ fn open_counts_fit(call: &OpenCall, size: &Size) -> bool {
     word_at(&call.block, 12).unwrap_or(0) <= size.count
 }
 
-/// No count word of ledger, header or rows is larger than allowed.
+/// No count word of ledger, header, rows or schedules is larger than allowed.
 fn settle_counts_fit(call: &SettleCall, size: &Size) -> bool {
     if size.count == u32::MAX {
         return true;
     }
     let word = |at| word_at(&call.file, at).unwrap_or(0);
-    let rows = word(24);
-    let rows_at = word(28) as usize;
+    let fits = |at| word(at) <= size.count;
+    let schedules = match Format::of(&call.file) {
+        Format::One => 0,
+        Format::Two => word(40),
+    };
+    let schedule_at = |number| word(44) as usize + SCHEDULE_BYTES * number;
     long_at(&call.ledger, 5).unwrap_or(0) <= size.count.into()
-        && rows <= size.count
-        && word(32) <= size.count
-        && (0..rows as usize).all(|row| word(rows_at + ROW_BYTES * row + 52) <= size.count)
+        && [24, 32].into_iter().all(fits)
+        && schedules <= size.count
+        && (0..word(24) as usize).all(|number| fits(row_at(&call.file, number) + 52))
+        && (0..schedules as usize).all(|number| fits(schedule_at(number) + 8))
 }

@@ -2,9 +2,9 @@
 
 use crate::pages::small_page;
 use crate::random::{
-    accepted_event, event_of_one, long_open, long_settle, open_call_for, refused_event,
-    settle_call_for, small_event, EventCall, OpenCall, Rng, RunningYear, SettleCall,
-    OPENING_GROUNDS, SMALL,
+    accepted_event, event_of_one, long_open, long_settle, open_call_for, refused_alone,
+    refused_event, settle_call_for, settle_in_no_year, small_event, EventCall, OpenCall, Rng,
+    RunningYear, SettleCall, OPENING_GROUNDS, SETTLING_GROUNDS, SMALL,
 };
 use crate::reference;
 
@@ -72,7 +72,13 @@ impl Case {
     }
 }
 
-/// So many calls of opening and settling; every fourth opens, and one in 200 has a length at a limit.
+/// The ground of the case with this number, one after another.
+fn in_turn(grounds: &[u32], number: u64) -> u32 {
+    grounds[number as usize % grounds.len()]
+}
+
+/// So many calls of opening and settling; every fourth opens, one in 200 has a length at a limit, and one in 400 has a
+/// ledger of no year.
 pub fn cases(seed: u64, count: u64) -> Vec<Case> {
     let mut rng = Rng::new(seed);
     let mut year = RunningYear::open(&mut rng, &SMALL);
@@ -80,8 +86,9 @@ pub fn cases(seed: u64, count: u64) -> Vec<Case> {
         .map(|index| match (index % 400, index % 4) {
             (200, _) => Case::open(long_open(&mut rng, &SMALL)),
             (399, _) => Case::settle(long_settle(&mut rng, &SMALL)),
+            (101, _) => Case::settle(settle_in_no_year(&mut rng, &SMALL)),
             (_, 0) => {
-                let ground = OPENING_GROUNDS[index as usize / 4 % OPENING_GROUNDS.len()];
+                let ground = in_turn(&OPENING_GROUNDS, index / 4);
                 Case::open(open_call_for(&mut rng, &SMALL, ground))
             }
             (_, 1) => {
@@ -91,7 +98,7 @@ pub fn cases(seed: u64, count: u64) -> Vec<Case> {
                 Case::settle(year.next_call(&mut rng, &SMALL))
             }
             _ => {
-                let ground = 6 + (index / 2 % 11) as u32;
+                let ground = in_turn(&SETTLING_GROUNDS, index / 2);
                 Case::settle(settle_call_for(&mut rng, &SMALL, ground))
             }
         })
@@ -100,7 +107,7 @@ pub fn cases(seed: u64, count: u64) -> Vec<Case> {
 
 /// The grounds on which a file is refused wherever it stands in an event; 16 needs a full pool, which events of one
 /// file have.
-const ANYWHERE: [u32; 10] = [7, 8, 9, 10, 11, 12, 13, 14, 15, 22];
+const ANYWHERE: [u32; 11] = [7, 8, 9, 10, 11, 12, 13, 18, 14, 15, 22];
 
 /// So many calls on events: by turns whole or damaged anywhere (among them accepted ones of 0 to 3
 /// files), refused at each place on each ground, and of one file.
@@ -112,10 +119,13 @@ pub fn events(seed: u64, count: u64) -> Vec<Case> {
             0 if number % 20 >= 16 => accepted_event(&mut rng, &SMALL, number % 4),
             0 => small_event(&mut rng, &SMALL, number % 20),
             1 => {
-                let ground = ANYWHERE[number as usize % ANYWHERE.len()];
+                let ground = in_turn(&ANYWHERE, number);
                 refused_event(&mut rng, &SMALL, number as usize % 3, ground)
             }
-            _ => event_of_one(&mut rng, &SMALL, 6 + (number % 11) as u32),
+            _ => match in_turn(&SETTLING_GROUNDS, number) {
+                ground @ (6 | 16) => refused_alone(&mut rng, &SMALL, ground),
+                ground => event_of_one(&mut rng, &SMALL, ground),
+            },
         };
         Case::event(call)
     };

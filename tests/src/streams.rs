@@ -1,12 +1,13 @@
 //! Streams for the listing program: whole, refused at every ground, cut everywhere, at every limit, and long.
 
 use crate::layout::{
-    ledger_bytes, push_block, result_bytes, stream_of, IntervalFile, Opening, Row, BLOCK_MOST,
-    DAY_INTERVALS, FILE_MOST, HEADER_BYTES, IDS_MOST, KW_MOST, POINTS_MOST, ROWS_MOST,
+    ledger_bytes, push_block, result_bytes, stream_of, Format, IntervalFile, Opening, Row,
+    BLOCK_MOST, DAY_INTERVALS, FILE_MOST, IDS_MOST, KW_MOST, POINTS_MOST, ROWS_MOST,
 };
 use crate::listing;
 use crate::random::{
-    self, damage_settle, damaged_open, first_made, Rng, SettleCase, World, FULL, MIDDLE, SMALL,
+    self, damage_settle, damaged_open, first_made, four_schedules, Rng, SettleCase, World, FULL,
+    MIDDLE, SETTLING_GROUNDS, SMALL,
 };
 use crate::reference::{npalist, open};
 
@@ -37,9 +38,15 @@ pub fn two_intervals() -> Vec<u8> {
     [document(), second].concat()
 }
 
-/// The stream of two intervals, cut at every byte.
+/// The same with a third interval, whose file has format 2.
+fn three_intervals() -> Vec<u8> {
+    let third = stream_of(&[&listing::file(1002).in_format_2().bytes()]);
+    [two_intervals(), third].concat()
+}
+
+/// The stream of three intervals, one of them in format 2, cut at every byte.
 pub fn prefixes() -> Vec<Case> {
-    let stream = two_intervals();
+    let stream = three_intervals();
     let cut = |length: usize| Case::new(format!("{length} bytes"), stream[..length].to_vec());
     (0..=stream.len()).map(cut).collect()
 }
@@ -65,7 +72,10 @@ pub fn refused_openings(rng: &mut Rng, each: usize) -> Vec<Case> {
 /// Files that each ground refuses, so many of each, between two accepted ones.
 pub fn refused_files(rng: &mut Rng, each: usize) -> Vec<Case> {
     let mut cases = Vec::new();
-    for ground in 7..=14 {
+    let listed = SETTLING_GROUNDS
+        .iter()
+        .filter(|ground| ![6, 15, 16].contains(*ground));
+    for ground in listed.copied() {
         for number in 0..each {
             let name = format!("file refused by {ground}, number {number}");
             cases.push(Case::new(name, refused_in_the_middle(rng, ground)));
@@ -126,16 +136,23 @@ fn full_pool() -> Vec<u8> {
 pub fn lengths() -> Vec<Case> {
     let far = [1 << 16, 1 << 24, 1 << 31, u32::MAX];
     let openings = [
-        0, 1, 19, 20, 23, 24, 35, 36, 37, 39, 40, 41, 4095, 4096, 4097, 49_152,
+        0, 1, 19, 20, 23, 24, 35, 36, 37, 39, 40, 41, 4095, 4096, 4097, 49_152, 61_440,
     ];
-    let files = [0, 1, 39, 40, 41, 311, 312, 313, 49_151, 49_152, 49_153];
+    let files = [
+        0, 1, 3, 4, 39, 40, 41, 47, 48, 49, 311, 312, 313, 371, 372, 373,
+    ];
+    let limits = [49_151, 49_152, 49_153, 61_439, 61_440, 61_441];
     let mut cases = Vec::new();
     for length in openings.into_iter().chain(far) {
         cases.extend(openings_of(&listing::opening(), length));
         cases.extend(openings_of(&listing::opening_of(2016), length));
     }
-    for length in files.into_iter().chain(far) {
-        cases.extend(files_of(length));
+    for length in files.into_iter().chain(limits).chain(far) {
+        cases.extend(
+            Format::BOTH
+                .into_iter()
+                .flat_map(|format| files_of(format, length)),
+        );
     }
     for year in [0, 2016] {
         let name = format!("limits reached, year {year}");
@@ -147,7 +164,9 @@ pub fn lengths() -> Vec<Case> {
 /// Blocks one byte over each limit, whose lengths end a listing.
 pub fn too_long() -> Vec<Case> {
     let mut cases = openings_of(&listing::opening(), BLOCK_MOST as u32 + 1);
-    cases.extend(files_of(FILE_MOST as u32 + 1));
+    for format in Format::BOTH {
+        cases.extend(files_of(format, FILE_MOST as u32 + 1));
+    }
     cases
 }
 
@@ -160,12 +179,16 @@ fn openings_of(opening: &Opening, length: u32) -> Vec<Case> {
     at_length(&name, &[], &opening.bytes(), length, files)
 }
 
-/// The file of document 01 with this length, behind two and before one that have their own.
-fn files_of(length: u32) -> Vec<Case> {
+/// The file of document 01 in this format with this length, behind two and before one that have their own.
+fn files_of(format: Format, length: u32) -> Vec<Case> {
     let mut file = listing::file(1002);
+    if format == Format::Two {
+        file = file.in_format_2();
+    }
     file.length = length.min(100_000) as usize;
     let behind = stream_of(&[&listing::file(1003).bytes()]);
-    at_length("file", &two_intervals(), &file.bytes(), length, &behind)
+    let name = format!("file of format {}", format.word());
+    at_length(&name, &two_intervals(), &file.bytes(), length, &behind)
 }
 
 /// A block that is to have this length, between other bytes of a stream.
@@ -182,32 +205,53 @@ fn at_length(name: &str, before: &[u8], block: &[u8], length: u32, behind: &[u8]
     cases.into_iter().map(case).collect()
 }
 
-/// The longest opening with the most ids, and the longest file with the most rows and points, each point of some row.
+/// The longest opening with the most ids, and the longest file of each format with the most rows and points, each point
+/// of some row, and the most schedules.
 fn at_the_limits(year: u32) -> Vec<u8> {
     let mut world = World::full();
     world.year = year;
     let mut opening = world.block();
     opening.place(BLOCK_MOST - 4 * IDS_MOST, 0);
-    let mut file = world.full_file(&mut Rng::new(1), 0, ROW_POINTS);
-    file.place(HEADER_BYTES + file.point_bytes(), HEADER_BYTES, FILE_MOST);
+    let mut rng = Rng::new(1);
+    let mut file = world.full_file(&mut rng, 0, ROW_POINTS);
+    let header = file.format.header_bytes();
+    file.place(header + file.point_bytes(), header, file.format.most());
+    let second = world.full_file(&mut rng, 1, ROW_POINTS);
+    let mut second = four_schedules(&mut rng, second);
+    let [_, points, schedules] = second.table_bytes();
+    let header = second.format.header_bytes();
+    let [points_at, rows_at] = [header + schedules, header + schedules + points];
+    second.place_three([rows_at, points_at, header], second.format.most());
     let last = world.full_file(&mut Rng::new(2), DAY_INTERVALS * world.days - 1, ROW_POINTS);
-    stream_of(&[&opening.bytes(), &file.bytes(), &last.bytes()])
+    stream_of(&[
+        &opening.bytes(),
+        &file.bytes(),
+        &second.bytes(),
+        &last.bytes(),
+    ])
 }
 
-/// Files of the full year's first intervals, so many.
-fn full_files(count: u32) -> Vec<Vec<u8>> {
+/// The full year with so many files of its first intervals, all of format 1.
+pub fn full_intervals(count: u32) -> Vec<u8> {
+    full_year(count, |_, file| file)
+}
+
+/// The same, every second file in format 2 with four schedules a row.
+fn full_schedules(count: u32) -> Vec<u8> {
+    full_year(count, |rng, file| match file.head[1] % 2 {
+        0 => file,
+        _ => four_schedules(rng, file),
+    })
+}
+
+/// The full year with so many files, each changed.
+fn full_year(count: u32, change: fn(&mut Rng, IntervalFile) -> IntervalFile) -> Vec<u8> {
     let world = World::full();
     let mut rng = Rng::new(1);
-    let mut file = |interval| world.full_file(&mut rng, interval, ROW_POINTS).bytes();
-    (0..count).map(&mut file).collect()
-}
-
-/// The full year with so many of its files.
-pub fn full_intervals(count: u32) -> Vec<u8> {
-    let world = World::full();
     let mut stream = stream_of(&[&world.block().bytes()]);
-    for file in full_files(count) {
-        push_block(&mut stream, &file);
+    for interval in 0..count {
+        let file = world.full_file(&mut rng, interval, ROW_POINTS);
+        push_block(&mut stream, &change(&mut rng, file).bytes());
     }
     stream
 }
@@ -224,7 +268,7 @@ pub fn long(rng: &mut Rng) -> Vec<Case> {
         Case::new("120000 empty blocks", empty),
         Case::new("6000 accepted files", accepted),
         Case::new("4000 files, accepted and refused", mixed(rng)),
-        Case::new("40 full files", full_intervals(40)),
+        Case::new("40 full files of both formats", full_schedules(40)),
     ]
 }
 

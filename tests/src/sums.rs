@@ -1,6 +1,6 @@
 //! The sums of a year, as document 01 takes them from the results of accepted calls.
 
-use crate::layout::{long_at, put_longs, result_bytes, word_at, Terms, ROW_BYTES};
+use crate::layout::{long_at, put_longs, result_bytes, row_at, word_at, Terms};
 use std::collections::BTreeMap;
 
 /// An accepted call: its file and the bytes around it.
@@ -84,9 +84,8 @@ impl Accepted<'_> {
     /// The rows as the result gives them.
     fn rows(&self) -> Vec<GivenRow> {
         let count = short_word(self.file, 24) as usize;
-        let rows_at = short_word(self.file, 28) as usize;
         let row = |index: usize| {
-            let at = rows_at + ROW_BYTES * index;
+            let at = row_at(self.file, index);
             let figure = |number: usize| word(self.result, 8 + 8 * index + number);
             GivenRow {
                 id: short_word(self.file, at),

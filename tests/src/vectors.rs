@@ -8,7 +8,7 @@ use std::{fs, str};
 pub const FOLDER: &str = concat!(env!("CARGO_MANIFEST_DIR"), "/vectors");
 
 /// Its files with cases.
-pub const FILES: [&str; 1] = ["after-N10.txt"];
+pub const FILES: [&str; 1] = ["after-N2.txt"];
 
 /// What a case calls, with its buffers and the answer.
 #[derive(Clone, Debug, PartialEq)]

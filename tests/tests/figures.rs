@@ -1,7 +1,8 @@
 //! The figures the trade gave, each through opening, settling or listing.
 
 use npa_tests::layout::{
-    ledger_bytes, long_at, point, result_bytes, stream_of, IntervalFile, Ledger, Opening, Row,
+    ledger_bytes, long_at, point, result_bytes, stream_of, Format, IntervalFile, Ledger, Opening,
+    Row, COST, FILE_MOST, MARKET, PLS,
 };
 use npa_tests::listing::{self, curve_a, DAYS, IDS, NET_CONE};
 use npa_tests::reference::{npalist, open, settle, HEADING};
@@ -383,6 +384,494 @@ fn kinds_end_at_5_and_an_importer_has_no_commitment() {
     }
 }
 
+// ---------------------------------------------------------------- several schedules
+
+/// Curves of two points that give 60000, 70000 and 80000 kW at an LMP of 3000.
+const CURVES: [[[u32; 2]; 2]; 3] = [
+    [[1_000, 20_000], [5_000, 100_000]],
+    [[1_000, 30_000], [5_000, 110_000]],
+    [[1_000, 40_000], [5_000, 120_000]],
+];
+
+/// A file of one row that names a schedule for each kind and curve. So much is imported that all its kW are expected.
+fn scheduled_file(row: Row, schedules: &[(u32, usize)]) -> IntervalFile {
+    let named = Row {
+        id: 1,
+        count: schedules.len() as u32,
+        ..row
+    };
+    let points = CURVES.concat();
+    let file = IntervalFile::new(NET_CONE, DAYS, 0, vec![named.words()], points);
+    let schedule = |(kind, curve): &(u32, usize)| [*kind, 2 * *curve as u32, 2];
+    let mut file = file.with_schedules(schedules.iter().map(schedule).collect());
+    (file.head[4], file.head[5]) = (1, 40_000_000);
+    file
+}
+
+/// The words of that row.
+fn scheduled_row(row: Row, schedules: &[(u32, usize)]) -> [u64; 8] {
+    let file = scheduled_file(row, schedules);
+    let (ground, rows, _) = settled(&Ledger::new(NET_CONE, DAYS, &[1]), &file);
+    assert_eq!(ground, 0);
+    rows[0]
+}
+
+/// A plant of 110000 kW that is committed to 100000 and gives 10000 at an LMP of 3000.
+fn held_back() -> Row {
+    Row {
+        committed: 100_000,
+        owned: 110_000,
+        metered: 10_000,
+        maximum: 110_000,
+        minimum: 20_000,
+        online: 1,
+        lmp: 3_000,
+        ..Row::default()
+    }
+}
+
+/// What is excused to that plant, dispatched on one of its schedules.
+fn excused(schedules: &[(u32, usize)], dispatched: u32) -> u64 {
+    let row = Row {
+        dispatched,
+        ..held_back()
+    };
+    scheduled_row(row, schedules)[3]
+}
+
+#[test]
+fn the_kind_of_schedule_dispatched_on_decides_which_others_count() {
+    let schedules = [(MARKET, 2), (PLS, 1), (COST, 0)];
+    for (dispatched, words) in [
+        (0, [100_000, 10_000, 0, 20_000, 70_000, 0, 2_129_167, 0]),
+        (1, [100_000, 10_000, 0, 30_000, 60_000, 0, 1_825_000, 0]),
+        (2, [100_000, 10_000, 0, 40_000, 50_000, 0, 1_520_833, 0]),
+    ] {
+        let row = Row {
+            dispatched,
+            ..held_back()
+        };
+        assert_eq!(scheduled_row(row, &schedules), words, "{dispatched}");
+    }
+    // Wherever they stand.
+    for (schedules, excusals) in [
+        ([(COST, 0), (MARKET, 2), (PLS, 1)], [40_000, 20_000, 30_000]),
+        ([(PLS, 1), (COST, 0), (MARKET, 2)], [30_000, 40_000, 20_000]),
+    ] {
+        assert_eq!(
+            [0, 1, 2].map(|dispatched| excused(&schedules, dispatched)),
+            excusals
+        );
+    }
+}
+
+#[test]
+fn a_market_offer_above_the_cost_based_one_is_not_excused() {
+    assert_eq!(excused(&[(MARKET, 0)], 0), 40_000);
+    assert_eq!(excused(&[(MARKET, 0), (COST, 2)], 0), 20_000);
+    assert_eq!(excused(&[(MARKET, 0), (PLS, 1)], 0), 30_000);
+    assert_eq!(excused(&[(MARKET, 0), (MARKET, 2)], 0), 20_000);
+    assert_eq!(excused(&[(PLS, 0), (COST, 1)], 0), 30_000);
+    assert_eq!(excused(&[(PLS, 0), (PLS, 2)], 0), 20_000);
+    assert_eq!(excused(&[(PLS, 0), (MARKET, 2)], 0), 40_000);
+    assert_eq!(excused(&[(COST, 1), (MARKET, 2), (PLS, 2)], 0), 30_000);
+}
+
+#[test]
+fn a_cost_schedule_counts_alone_even_below_another() {
+    let two = [(COST, 0), (COST, 2)];
+    assert_eq!(
+        [0, 1].map(|dispatched| excused(&two, dispatched)),
+        [40_000, 20_000]
+    );
+    let four = [(COST, 1), (COST, 2), (COST, 0), (MARKET, 2)];
+    let excusals = [0, 1, 2, 3].map(|dispatched| excused(&four, dispatched));
+    assert_eq!(excusals, [30_000, 20_000, 40_000, 20_000]);
+}
+
+#[test]
+fn limits_hold_for_each_schedule_and_the_actual_for_the_highest() {
+    let schedules = [(MARKET, 0), (COST, 2)];
+    let economic = |row| scheduled_row(row, &schedules)[3];
+    // 80000 kW of the cost schedule are cut to 65000; the market one has 60000.
+    let cut = Row {
+        maximum: 65_000,
+        ..held_back()
+    };
+    assert_eq!(economic(cut), 0);
+    let more = Row {
+        metered: 85_000,
+        ..held_back()
+    };
+    assert_eq!(economic(more), 15_000);
+    let raised = Row {
+        minimum: 90_000,
+        ..held_back()
+    };
+    assert_eq!(economic(raised), 10_000);
+    // Above the last price of both.
+    assert_eq!(
+        economic(Row {
+            lmp: 5_001,
+            ..held_back()
+        }),
+        0
+    );
+}
+
+#[test]
+fn offline_a_schedule_below_its_first_price_gives_nothing() {
+    // At 999 neither curve is reached; at 1000 the first points are.
+    for (online, lmp, economic) in [
+        (1, 999, 80_000),
+        (0, 999, 90_000),
+        (0, 1_000, 60_000),
+        (1, 1_000, 60_000),
+    ] {
+        let row = Row {
+            online,
+            lmp,
+            ..held_back()
+        };
+        assert_eq!(
+            scheduled_row(row, &[(MARKET, 0), (COST, 2)])[3],
+            economic,
+            "{online} at {lmp}"
+        );
+    }
+    let idle = Row {
+        online: 0,
+        lmp: 999,
+        metered: 0,
+        ..held_back()
+    };
+    assert_eq!(scheduled_row(idle, &[(PLS, 0), (COST, 1)])[3], 100_000);
+}
+
+#[test]
+fn bonus_is_cut_to_the_schedule_dispatched_on() {
+    let schedules = [(MARKET, 0), (PLS, 1), (COST, 2)];
+    for (dispatched, kw) in [(0, 60_000), (1, 70_000), (2, 80_000)] {
+        let energy_only = Row {
+            kind: 4,
+            committed: 0,
+            metered: 90_000,
+            dispatched,
+            ..held_back()
+        };
+        assert_eq!(
+            scheduled_row(energy_only, &schedules),
+            [0, 90_000, 0, 0, 0, kw, 0, 0]
+        );
+        let committed = Row {
+            kind: 0,
+            committed: 50_000,
+            ..energy_only
+        };
+        let words = [50_000, 90_000, 0, 0, 0, kw - 50_000, 0, 0];
+        assert_eq!(scheduled_row(committed, &schedules), words);
+    }
+    // On the first the economic rule takes 80000 kW, and the bonus stays cut to 60000.
+    let above = Row {
+        metered: 75_000,
+        committed: 55_000,
+        ..held_back()
+    };
+    assert_eq!(scheduled_row(above, &schedules)[5], 5_000);
+}
+
+#[test]
+fn without_schedules_a_row_is_one_without_points() {
+    let row = Row {
+        first: u32::MAX,
+        ..held_back()
+    };
+    assert_eq!(
+        scheduled_row(row, &[]),
+        [100_000, 10_000, 0, 0, 90_000, 0, 2_737_500, 0]
+    );
+    let river = Row {
+        kind: 4,
+        committed: 0,
+        metered: 120_000,
+        planned: 20_000,
+        ..row
+    };
+    assert_eq!(scheduled_row(river, &[])[5], 90_000);
+    let prd = Row { kind: 3, ..row };
+    assert_eq!(scheduled_row(prd, &[]), [0; 8]);
+}
+
+#[test]
+fn prd_has_the_schedule_dispatched_on_as_its_curve() {
+    let points = vec![point(500, 0), point(2_000, 3_000), point(1_500, 1)];
+    for (dispatched, lmp, considered) in [
+        (0, 1_999, 0),
+        (0, 2_000, 1),
+        (1, 1_499, 0),
+        (1, 1_500, 1),
+        (1, 1_999, 1),
+    ] {
+        let row = Row {
+            id: 1,
+            kind: 3,
+            committed: 7,
+            metered: 9,
+            lmp,
+            count: 2,
+            dispatched,
+            ..Row::default()
+        };
+        let file = IntervalFile::new(NET_CONE, DAYS, 0, vec![row.words()], points.clone());
+        let file = file.with_schedules(vec![[MARKET, 0, 2], [COST, 2, 1]]);
+        let (ground, rows, _) = settled(&Ledger::new(NET_CONE, DAYS, &[1]), &file);
+        let words = [7, 9, 0, 0, 0, 2, 0, 0].map(|word| word * considered);
+        assert_eq!((ground, rows[0]), (0, words), "{dispatched} at {lmp}");
+    }
+}
+
+#[test]
+fn demand_efficiency_and_importers_have_no_use_for_schedules() {
+    for (kind, committed) in [(1, 100_000), (2, 100_000), (5, 0)] {
+        let row = Row {
+            kind,
+            committed,
+            ..held_back()
+        };
+        let without = scheduled_row(row, &[]);
+        for dispatched in 0..3 {
+            let named = Row { dispatched, ..row };
+            assert_eq!(
+                scheduled_row(named, &[(MARKET, 0), (PLS, 1), (COST, 2)]),
+                without
+            );
+        }
+        let unnamed = Row {
+            dispatched: 1,
+            ..row
+        };
+        let ledger = Ledger::new(NET_CONE, DAYS, &[1]);
+        assert_eq!(
+            settled(&ledger, &scheduled_file(unnamed, &[(MARKET, 0)])).0,
+            18
+        );
+        let mut empty = scheduled_file(row, &[(MARKET, 0)]);
+        empty.schedules[0][2] = 0;
+        assert_eq!(settled(&ledger, &empty).0, 14);
+    }
+}
+
+/// The answer to a file of format 2 with a change: two plants, which name two schedules each, of which they share one;
+/// nobody names the last schedule and the last point.
+fn changed(change: impl FnOnce(&mut IntervalFile)) -> u32 {
+    let row = |id| Row {
+        id,
+        first: id - 1,
+        count: 2,
+        dispatched: 1,
+        ..held_back()
+    };
+    let mut points = CURVES.concat();
+    points.push([u32::MAX, u32::MAX]);
+    let file = IntervalFile::new(
+        NET_CONE,
+        DAYS,
+        0,
+        vec![row(1).words(), row(2).words()],
+        points,
+    );
+    let wild = [u32::MAX, u32::MAX, 0];
+    let mut file = file.with_schedules(vec![[MARKET, 0, 2], [PLS, 2, 2], [COST, 4, 2], wild]);
+    change(&mut file);
+    settled(&Ledger::new(NET_CONE, DAYS, &[1, 2]), &file).0
+}
+
+#[test]
+fn lengths_of_both_formats() {
+    assert_eq!(changed(|_| ()), 0);
+    for (length, answer) in [
+        (0, 7),
+        (47, 7),
+        (48, 11),
+        (49_153, 0),
+        (61_440, 0),
+        (61_441, 7),
+    ] {
+        assert_eq!(changed(|file| file.length = length), answer, "{length}");
+    }
+    let ledger = Ledger::new(NET_CONE, DAYS, &IDS);
+    for (length, answer) in [
+        (39, 7),
+        (40, 11),
+        (49_152, 0),
+        (49_153, 7),
+        (61_440, 7),
+        (61_441, 7),
+    ] {
+        let mut file = listing::file(1_000);
+        file.length = length;
+        assert_eq!(settled(&ledger, &file).0, answer, "{length}");
+    }
+    for (format, answer) in [(0, 7), (3, 7), (257, 7), (258, 7)] {
+        assert_eq!(changed(|file| file.head[0] = format), answer, "{format}");
+    }
+}
+
+#[test]
+fn tables_of_format_2() {
+    for (schedules, answer) in [(1_024, 0), (1_025, 11)] {
+        let more = |file: &mut IntervalFile| {
+            file.schedules.resize(schedules, [0; 3]);
+            file.place_plainly();
+        };
+        assert_eq!(changed(more), answer, "{schedules}");
+    }
+    // Without schedules and points, whose offsets are words 9 and 11.
+    for word in [9, 11] {
+        for (at, answer) in [(40, 11), (47, 11), (48, 0), (60, 0), (168, 0), (169, 11)] {
+            let empty = |file: &mut IntervalFile| {
+                (file.points, file.schedules) = (vec![], vec![]);
+                file.rows.iter_mut().for_each(|row| row[12..].fill(0));
+                file.place_plainly();
+                assert_eq!(file.length, 168);
+                file.head[word] = at;
+            };
+            assert_eq!(changed(empty), answer, "word {word} is {at}");
+        }
+    }
+    // The tables begin at 48, 168 and 224 and end at 272; each is moved by a byte towards its neighbour and its end.
+    for (word, by, answer) in [
+        (7, 1, 11),
+        (7, -1, 11),
+        (9, 1, 11),
+        (9, -1, 11),
+        (11, -1, 11),
+        (11, 1, 11),
+    ] {
+        let moved = |file: &mut IntervalFile| {
+            assert_eq!([file.head[7], file.head[9], file.head[11]], [48, 168, 224]);
+            file.head[word] = file.head[word].wrapping_add_signed(by);
+        };
+        assert_eq!(changed(moved), answer, "word {word} by {by}");
+    }
+    assert_eq!(changed(|file| file.place_three([122, 58, 250], 300)), 0);
+    assert_eq!(changed(|file| file.place_three([122, 300, 250], 360)), 0);
+    assert_eq!(changed(|file| file.place_three([122, 297, 250], 360)), 11);
+    assert_eq!(changed(|file| file.place_three([122, 58, 241], 300)), 11);
+}
+
+#[test]
+fn schedules_of_a_row() {
+    for (row, words, answer) in [
+        (0, [0, 4, 3], 18), // the last is of no kind
+        (0, [0, 3, 2], 0),
+        (0, [0, 3, 3], 18),
+        (1, [1, 2, 2], 18),
+        (1, [2, 1, 0], 0),
+        (1, [2, 1, 1], 18),
+        (0, [2, 2, 0], 18),
+        (0, [4, 1, 0], 18),
+        (1, [u32::MAX, 1, 0], 18),
+        (1, [u32::MAX, 2, 0], 18),
+        (0, [0, u32::MAX, 0], 18),
+        (0, [u32::MAX, 0, 0], 0),
+        (1, [7, 0, 0], 0),
+        (1, [0, 0, 1], 18),
+        (0, [0, 0, u32::MAX], 18),
+        (0, [0, 2, u32::MAX], 18),
+    ] {
+        let is = changed(|file| file.rows[row][12..].copy_from_slice(&words));
+        assert_eq!(is, answer, "row {row}: {words:?}");
+    }
+    for (schedules, answer) in [(4, 0), (5, 18)] {
+        let many = |file: &mut IntervalFile| {
+            file.schedules = vec![[COST, 0, 1]; 6];
+            file.rows[1][12..].copy_from_slice(&[1, schedules, 3]);
+            file.place_plainly();
+        };
+        assert_eq!(changed(many), answer, "{schedules}");
+    }
+    for (schedule, kind, answer) in [
+        (0, 0, 18),
+        (1, 4, 18),
+        (2, u32::MAX, 18),
+        (3, 0, 0),
+        (1, 3, 0),
+        (2, 1, 0),
+    ] {
+        assert_eq!(
+            changed(|file| file.schedules[schedule][0] = kind),
+            answer,
+            "{schedule}: {kind}"
+        );
+    }
+}
+
+#[test]
+fn points_of_a_schedule() {
+    for (schedule, words, answer) in [
+        (0, [0, 0], 14),
+        (1, [u32::MAX, 0], 14),
+        (3, [0, 99], 0),
+        (0, [5, 1], 0),
+        (2, [6, 1], 14), // the last point, which nobody named
+        (2, [7, 1], 14),
+        (2, [u32::MAX, 1], 14),
+        (2, [u32::MAX, 2], 14),
+        (1, [2, 1], 0),
+        (1, [0, 3], 14), // a price that falls
+        (1, [0, 11], 14),
+        (1, [0, u32::MAX], 14),
+        (0, [1, 2], 14),
+    ] {
+        let is = changed(|file| file.schedules[schedule][1..].copy_from_slice(&words));
+        assert_eq!(is, answer, "schedule {schedule}: {words:?}");
+    }
+    for (points, answer) in [(10, 0), (11, 14)] {
+        let long = |file: &mut IntervalFile| {
+            file.schedules[1] = [PLS, file.points.len() as u32, points];
+            file.points.extend((0..11).map(|price| point(price, 5)));
+            file.place_plainly();
+        };
+        assert_eq!(changed(long), answer, "{points}");
+    }
+}
+
+#[test]
+fn eighteen_comes_between_13_and_14_of_all_rows() {
+    let faults: [(u32, fn(&mut IntervalFile)); 4] = [
+        (13, |file| file.rows[1][10] = 2),
+        (18, |file| file.rows[1][14] = 2),
+        (18, |file| file.rows[0][13] = 5),
+        (14, |file| file.points[1][1] = 1),
+    ];
+    for (first, one) in faults {
+        assert_eq!(changed(one), first);
+        for (second, other) in faults {
+            let both = changed(|file| [one, other].iter().for_each(|fault| fault(file)));
+            let in_order = [13, 18, 14]
+                .into_iter()
+                .find(|ground| [first, second].contains(ground));
+            assert_eq!(Some(both), in_order);
+        }
+    }
+}
+
+#[test]
+fn a_year_mixes_both_formats() {
+    let mut ledger = example_ledger();
+    let mut again = ledger.clone();
+    for interval in [1_000, 1_001, 1_002] {
+        let file = listing::file(interval);
+        let [mut result, mut other] = [[0xaa; 320]; 2];
+        let two = file.clone().in_format_2();
+        assert_eq!(settle(&mut ledger, &file.bytes(), &mut result), 0);
+        let file = if interval == 1_001 { file } else { two };
+        assert_eq!(settle(&mut again, &file.bytes(), &mut other), 0);
+        assert_eq!((&ledger, result), (&again, other));
+    }
+}
+
 const EXAMPLE_LINES: &str = "\
 1000,11,86667,60000,10000,26667,0,0,0,0
 1000,12,43333,25000,0,0,18333,0,557629,0
@@ -506,14 +995,39 @@ fn a_listing_stops_after_a_length_over_the_limit() {
         let input = [&length.to_le_bytes()[..], &[1; 50]].concat();
         assert_eq!(listed(&input), line);
     }
-    for (length, line) in [(49_152u32, "cut,1\n"), (49_153, "refused,1,7\n")] {
+    for (length, line) in [
+        (49_153, "cut,1\n"),
+        (61_440u32, "cut,1\n"),
+        (61_441, "refused,1,7\n"),
+    ] {
         let input = [&opening[..], &length.to_le_bytes(), &file].concat();
         assert_eq!(listed(&input), line);
     }
-    let mut longest = listing::file(1_000);
-    longest.length = 49_152;
-    let input = [&opening[..], &stream_of(&[&longest.bytes()])].concat();
-    assert_eq!(listed(&input), EXAMPLE_LINES);
+    for format in Format::BOTH {
+        let mut longest = listing::file(1_000);
+        if format == Format::Two {
+            longest = longest.in_format_2();
+        }
+        longest.length = format.most();
+        let input = [&opening[..], &stream_of(&[&longest.bytes()])].concat();
+        assert_eq!(listed(&input), EXAMPLE_LINES);
+    }
+}
+
+#[test]
+fn a_listing_goes_on_after_a_long_file_of_format_1() {
+    let opening = listing::opening().bytes();
+    let file = listing::file(1_000).bytes();
+    for length in [49_153, FILE_MOST] {
+        let mut long = listing::file(1_000);
+        long.length = length;
+        let input = stream_of(&[&opening, &long.bytes(), &file]);
+        assert_eq!(
+            listed(&input),
+            format!("refused,1,7\n{EXAMPLE_LINES}"),
+            "{length}"
+        );
+    }
 }
 
 #[test]

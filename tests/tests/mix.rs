@@ -1,13 +1,14 @@
 //! Random calls: no panic, nothing written on refusal, and a wide mix.
 
 use npa_tests::layout::{
-    ledger_bytes, long_at, put_longs, put_words, result_bytes, word_at, Ledger, Terms, HALVED_YEAR,
-    POINTS_MOST, ROW_BYTES, YEARS, YEAR_FORMAT, YEAR_OPENING_BYTES,
+    ledger_bytes, long_at, put_longs, put_words, result_bytes, row_at, word_at, Format, Ledger,
+    Terms, HALVED_YEAR, POINTS_MOST, SCHEDULE_BYTES, YEARS, YEAR_FORMAT, YEAR_OPENING_BYTES,
 };
 use npa_tests::listing::{DAYS, NET_CONE};
 use npa_tests::random::{
     event_file, first_made, long_open, long_settle, open_call, rising, settle_call, stream,
-    OpenCall, Rng, RunningYear, SettleCall, Size, FULL, MIDDLE, SMALL,
+    valid_settle, OpenCall, Rng, RunningYear, SettleCall, Size, FULL, MIDDLE, OPENING_GROUNDS,
+    SETTLING_GROUNDS, SMALL,
 };
 use npa_tests::reference::{npalist, open, settle, HEADING};
 use npa_tests::small::{cases, events, inputs, Case, Input};
@@ -17,7 +18,7 @@ use std::collections::{BTreeMap, BTreeSet};
 fn checked_open(call: &OpenCall) -> u32 {
     let mut ledger = call.ledger.clone();
     let ground = open(&call.block, &mut ledger);
-    assert!(ground <= 5 || ground == 23);
+    assert!(ground == 0 || OPENING_GROUNDS.contains(&ground));
     if ground == 0 {
         let end = ledger_bytes(long_at(&ledger, 5).unwrap() as usize);
         assert_eq!(ledger[end..], call.ledger[end..]);
@@ -32,7 +33,7 @@ fn checked_settle(call: &SettleCall) -> (u32, Vec<u8>) {
     let mut ledger = call.ledger.clone();
     let mut result = call.result.clone();
     let ground = settle(&mut ledger, &call.file, &mut result);
-    assert!(ground == 0 || (6..=16).contains(&ground));
+    assert!(ground == 0 || SETTLING_GROUNDS.contains(&ground));
     if ground == 0 {
         let end = ledger_bytes(long_at(&ledger, 5).unwrap() as usize);
         assert_eq!(ledger[end..], call.ledger[end..]);
@@ -44,27 +45,57 @@ fn checked_settle(call: &SettleCall) -> (u32, Vec<u8>) {
     (ground, result)
 }
 
-/// How many cases of each ground there are among so many calls.
-fn grounds(seed: u64, size: &Size, calls: usize) -> BTreeMap<u32, usize> {
-    let mut rng = Rng::new(seed);
+/// How many cases of each ground there are among so many openings.
+fn opening_grounds(rng: &mut Rng, size: &Size, calls: usize) -> BTreeMap<u32, usize> {
     let mut grounds = BTreeMap::new();
     for _ in 0..calls {
-        let ground = checked_open(&open_call(&mut rng, size));
+        let ground = checked_open(&open_call(rng, size));
         *grounds.entry(ground).or_default() += 1;
-        let (ground, _) = checked_settle(&settle_call(&mut rng, size));
-        *grounds.entry(ground).or_default() += 1;
+    }
+    grounds
+}
+
+/// How many cases of each ground there are among so many settlings, of files that begin like one of each format.
+fn settling_grounds(rng: &mut Rng, size: &Size, calls: usize) -> BTreeMap<(u32, u32), usize> {
+    let mut grounds = BTreeMap::new();
+    for _ in 0..calls {
+        let call = settle_call(rng, size);
+        let (ground, _) = checked_settle(&call);
+        *grounds
+            .entry((Format::of(&call.file).word(), ground))
+            .or_default() += 1;
     }
     grounds
 }
 
 #[test]
 fn every_ground_is_met_in_every_size() {
+    let mut rng = Rng::new(5);
     for (size, calls) in [(SMALL, 4_000), (MIDDLE, 2_000), (FULL, 1_000)] {
-        let grounds = grounds(5, &size, calls);
-        for ground in (0..=16).chain([23]) {
-            assert!(grounds.contains_key(&ground), "{ground} in {size:?}");
+        let opened = opening_grounds(&mut rng, &size, calls);
+        let missing: Vec<_> = OPENING_GROUNDS
+            .iter()
+            .filter(|ground| !opened.contains_key(*ground))
+            .collect();
+        assert!(missing.is_empty(), "no {missing:?} in {size:?}");
+        let settled = settling_grounds(&mut rng, &size, calls);
+        for format in Format::BOTH {
+            for ground in [0].into_iter().chain(SETTLING_GROUNDS) {
+                let wanted = settled.contains_key(&(format.word(), ground));
+                assert_ne!(
+                    wanted,
+                    format == Format::One && ground == 18,
+                    "{format:?}, {ground} in {size:?}"
+                );
+            }
         }
-        assert!(5 * grounds[&0] > 2 * 2 * calls, "enough accepted");
+        let accepted = [1, 2].map(|format| settled[&(format, 0)]);
+        assert!(
+            accepted.iter().all(|accepted| 10 * accepted > calls),
+            "{accepted:?}"
+        );
+        let all = opened[&0] + accepted.iter().sum::<usize>();
+        assert!(5 * all > 2 * 2 * calls, "enough accepted: {all}");
     }
 }
 
@@ -149,7 +180,7 @@ fn ledgers_show_every_year() {
         let mut rng = Rng::new(12);
         let (mut accepted, mut refused) = (BTreeSet::new(), BTreeSet::new());
         let (mut by_days, mut by_limit) = (0, 0);
-        for _ in 0..16_000 {
+        for _ in 0..24_000 {
             let call = settle_call(&mut rng, &size);
             let (ground, _) = checked_settle(&call);
             if ground == 0 {
@@ -246,6 +277,8 @@ fn small_cases_stay_small() {
         assert!(long_at(&call.ledger, 5).unwrap_or(0) <= 600);
         assert!(word_at(&call.file, 24).unwrap_or(0) <= 600);
         assert!(word_at(&call.file, 32).unwrap_or(0) <= 600);
+        let schedules = word_at(&call.file, 40).filter(|_| Format::of(&call.file) == Format::Two);
+        assert!(schedules.unwrap_or(0) <= 600);
     }
 }
 
@@ -293,7 +326,11 @@ fn features(call: &SettleCall, result: &[u8]) -> Vec<&'static str> {
     note(interval(1) > 0 && interval(2) > 0, "charges and credits");
     note(interval(1) > 0 && interval(4) == 0, "charges all carried");
     note(interval(3) > 0 && interval(2) > 0, "a rest carried");
-    note(at(32) == 0 && at(36) == 40, "no points at 40");
+    let header = Format::of(&call.file).header_bytes() as u32;
+    note(
+        at(32) == 0 && at(36) == header,
+        "no points at the header's end",
+    );
     note(
         at(32) == 0 && at(36) as usize == call.file.len(),
         "no points at the end",
@@ -301,7 +338,7 @@ fn features(call: &SettleCall, result: &[u8]) -> Vec<&'static str> {
     note(at(32) > 0 && at(36) < at(28), "points first");
     note(at(28) % 4 != 0, "unaligned rows");
     for row in 0..at(24) as usize {
-        let word = |index: usize| at(at(28) as usize + ROW_BYTES * row + 4 * index);
+        let word = |index: usize| at(row_at(&call.file, row) + 4 * index);
         let figure = |index: usize| long_at(result, 8 + 8 * row + index).unwrap();
         let (kind, count) = (word(1), word(13));
         let names = ["kind 0", "kind 1", "kind 2", "kind 3", "kind 4", "kind 5"];
@@ -345,16 +382,77 @@ fn features(call: &SettleCall, result: &[u8]) -> Vec<&'static str> {
         note(word(4) as i32 <= 0 && figure(1) == 0, "no actual");
         note(
             count == 0 && word(12) > POINTS_MOST as u32,
-            "any first point",
+            "any first point or schedule",
         );
         note(word(10) == 0 && count > 0 && kind == 0, "offline");
         for name in charge_features(&terms, figure(4), figure(6)) {
             note(true, name);
         }
         for other in 0..row {
-            let theirs = |index: usize| at(at(28) as usize + ROW_BYTES * other + 4 * index);
+            let theirs = |index: usize| at(row_at(&call.file, other) + 4 * index);
             let same = count > 0 && theirs(13) > 0 && theirs(12) == word(12);
-            note(same, "shared points");
+            note(same, "shared points or schedules");
+        }
+    }
+    seen
+}
+
+/// The kind of the schedule on which each row of a file of format 2 was dispatched, and how many it names.
+fn dispatches(file: &[u8]) -> Vec<Option<(u32, u32)>> {
+    let word = |at: usize| word_at(file, at).unwrap();
+    let dispatch = |row: usize| {
+        let [first, count, dispatched] =
+            [12, 13, 14].map(|index| word(row_at(file, row) + 4 * index));
+        let at = word(44) as usize + SCHEDULE_BYTES * (first.wrapping_add(dispatched) as usize);
+        (count > 0).then(|| (word(at), count))
+    };
+    (0..word(24) as usize).map(dispatch).collect()
+}
+
+/// The file of format 2 with no schedules but those dispatched on.
+fn dispatched_alone(file: &[u8]) -> Vec<u8> {
+    let mut alone = file.to_vec();
+    for (row, dispatch) in dispatches(file).iter().enumerate() {
+        let at = row_at(file, row) + 48;
+        let [first, dispatched] = [at, at + 8].map(|at| word_at(file, at).unwrap());
+        if dispatch.is_some() {
+            put_words(&mut alone, at, &[first + dispatched, 1, 0]);
+        }
+    }
+    alone
+}
+
+/// Names of what an accepted call of format 2 shows, beside one in which each row has but the schedule dispatched on.
+/// Other schedules may take from the economic figure, and change no other.
+fn schedule_features(call: &SettleCall, result: &[u8]) -> Vec<&'static str> {
+    let alone = SettleCall {
+        file: dispatched_alone(&call.file),
+        ..call.clone()
+    };
+    let (ground, without) = checked_settle(&alone);
+    let mut seen = Vec::new();
+    for (row, dispatch) in dispatches(&call.file).into_iter().enumerate() {
+        let at = row_at(&call.file, row);
+        let kind = word_at(&call.file, at + 4).unwrap();
+        let Some((schedule, count)) = dispatch else {
+            seen.push("no schedules");
+            continue;
+        };
+        let figure = |words: &[u8], index| long_at(words, 8 + 8 * row + index).unwrap();
+        let same = |index| figure(result, index) == figure(&without, index);
+        seen.push(
+            [
+                "",
+                "dispatched on market",
+                "dispatched on PLS",
+                "dispatched on cost",
+            ][schedule as usize],
+        );
+        seen.push(["", "one schedule", "two", "three", "four"][count as usize]);
+        assert!([0, 1, 2, 5].into_iter().all(same) || ground != 0);
+        if ground == 0 && !same(3) {
+            assert!([0, 4].contains(&kind) && figure(result, 3) < figure(&without, 3));
+            seen.push(["", "another above market", "another above PLS"][schedule as usize]);
         }
     }
     seen
@@ -364,17 +462,51 @@ fn features(call: &SettleCall, result: &[u8]) -> Vec<&'static str> {
 fn accepted_small_cases_show_every_rule() {
     let mut rng = Rng::new(8);
     let mut counts: BTreeMap<&str, usize> = BTreeMap::new();
-    for _ in 0..6_000 {
+    for _ in 0..8_000 {
         let call = settle_call(&mut rng, &SMALL);
         let (ground, result) = checked_settle(&call);
         if ground == 0 {
-            for name in features(&call, &result) {
+            let mut names = features(&call, &result);
+            if Format::of(&call.file) == Format::Two {
+                names.extend(schedule_features(&call, &result));
+            }
+            for name in names {
                 *counts.entry(name).or_default() += 1;
             }
         }
     }
-    assert_eq!(counts.len(), 49, "{counts:?}");
+    assert_eq!(counts.len(), 49 + 10, "{counts:?}");
     assert!(counts.values().all(|count| *count >= 15), "{counts:?}");
+}
+
+#[test]
+fn a_file_of_format_1_settles_alike_in_format_2() {
+    let mut rng = Rng::new(12);
+    let mut met = BTreeSet::new();
+    for (size, cases) in [(SMALL, 3_000), (MIDDLE, 300), (FULL, 30)] {
+        for _ in 0..cases {
+            let case = valid_settle(&mut rng, &size);
+            if case.file.format == Format::Two {
+                continue;
+            }
+            let call = case.call(&mut rng);
+            let again = SettleCall {
+                file: case.file.in_format_2().bytes(),
+                ..call.clone()
+            };
+            let mut left = [call, again];
+            let [ground, other] = left
+                .each_mut()
+                .map(|call| settle(&mut call.ledger, &call.file, &mut call.result));
+            let [one, two] = left;
+            assert_eq!(
+                (ground, &one.ledger, &one.result),
+                (other, &two.ledger, &two.result)
+            );
+            met.insert(ground);
+        }
+    }
+    assert!(met.contains(&0), "{met:?}");
 }
 
 #[test]
@@ -441,6 +573,7 @@ fn streams_are_listed_to_some_end() {
 #[test]
 fn small_events_are_refused_on_every_ground_and_at_each_place() {
     let (mut seen, mut short) = (BTreeSet::new(), 0);
+    let mut formats = BTreeSet::new();
     for case in events(1, 100) {
         let Case::Event { call, ground, left } = case else {
             panic!("a case that is no event");
@@ -450,26 +583,51 @@ fn small_events_are_refused_on_every_ground_and_at_each_place() {
             assert!(call.count.len() < 8);
             short += 1;
         } else {
-            seen.insert((ground, long_at(&left.count, 0).unwrap()));
+            let settled = long_at(&left.count, 0).unwrap();
+            seen.insert((ground, settled));
+            formats.insert(formats_of(&call.files, settled as usize));
         }
     }
-    let anywhere = (7..=15).chain([22]);
+    let anywhere = SETTLING_GROUNDS[1..11].iter().copied().chain([22]);
     let refused = anywhere.flat_map(|ground| [0, 1, 2].map(|place| (ground, place)));
     let wanted = refused.chain([(0, 0), (0, 1), (0, 2), (0, 3), (6, 0), (16, 0)]);
     let missing: Vec<_> = wanted.filter(|pair| !seen.contains(pair)).collect();
     assert!(missing.is_empty(), "no {missing:?}");
     assert!(short > 0, "no short count");
+    let mixed = [vec![1, 2], vec![2, 1], vec![2, 2], vec![2]];
+    assert!(
+        mixed.iter().all(|order| formats.contains(order)),
+        "{formats:?}"
+    );
+}
+
+/// The formats of the first so many blocks, each behind its length.
+fn formats_of(blocks: &[u8], count: usize) -> Vec<u32> {
+    let mut rest = blocks;
+    let mut formats = Vec::new();
+    for _ in 0..count {
+        let (block, behind) = rest[4..].split_at(word_at(rest, 0).unwrap() as usize);
+        formats.push(Format::of(block).word());
+        rest = behind;
+    }
+    formats
 }
 
 #[test]
 fn small_pages_have_every_sort_of_line() {
     let (mut seen, mut ids_cut) = (BTreeSet::new(), BTreeSet::new());
+    let mut formats = BTreeSet::new();
     for input in inputs(1, 40) {
         let length = input.bytes.len();
         assert!(length < 3_000);
         if length < 4 {
             ids_cut.insert(length);
             continue;
+        }
+        let listing = String::from_utf8(input.listing.clone()).unwrap();
+        if !listing.contains("refused") && !listing.contains("cut") {
+            let blocks = 1 + listing.matches("pool").count();
+            formats.extend(formats_of(input.stream(), blocks).split_off(1));
         }
         let page = String::from_utf8(input.page).unwrap();
         for line in page.lines().skip(1) {
@@ -486,6 +644,7 @@ fn small_pages_have_every_sort_of_line() {
         }
     }
     assert_eq!(seen.len(), 7, "{seen:?}");
+    assert_eq!(formats, BTreeSet::from([1, 2]), "formats of accepted files");
     assert_eq!(ids_cut, BTreeSet::from([0, 1, 2, 3]));
 }
 
@@ -493,4 +652,42 @@ fn small_pages_have_every_sort_of_line() {
 #[should_panic(expected = "such a case: none in 1000 attempts")]
 fn attempts_come_to_an_end() {
     first_made("such a case", || None::<u32>);
+}
+
+/// What a file is, and how a call on it ended: its format, then the ground or what it was dispatched on.
+fn outcome(file: &[u8], ground: u32) -> Vec<(u32, String)> {
+    let format = Format::of(file).word();
+    match (format, ground) {
+        (2, 0) => {
+            let kinds = dispatches(file).into_iter();
+            let dispatched = kinds.map(|dispatch| match dispatch {
+                Some((kind, _)) => format!("dispatched on {kind}"),
+                None => "no schedules".to_string(),
+            });
+            dispatched.map(|name| (format, name)).collect()
+        }
+        _ => vec![(format, format!("answer {ground}"))],
+    }
+}
+
+#[test]
+fn small_calls_have_files_of_both_formats_with_every_outcome() {
+    let mut counts: BTreeMap<(u32, String), usize> = BTreeMap::new();
+    for case in cases(1, 800) {
+        if let Case::Settle { call, ground, .. } = case {
+            for outcome in outcome(&call.file, ground) {
+                *counts.entry(outcome).or_default() += 1;
+            }
+        }
+    }
+    let dispatched = (1..=3).map(|kind| (2, format!("dispatched on {kind}")));
+    let accepted = dispatched.chain([(1, "answer 0".to_string()), (2, "no schedules".to_string())]);
+    let refused = SETTLING_GROUNDS
+        .iter()
+        .flat_map(|ground| [1, 2].map(|format| (format, format!("answer {ground}"))));
+    let wanted = accepted.chain(refused.filter(|outcome| *outcome != (1, "answer 18".to_string())));
+    let missing: Vec<_> = wanted
+        .filter(|outcome| !counts.contains_key(outcome))
+        .collect();
+    assert!(missing.is_empty(), "no {missing:?} in {counts:?}");
 }

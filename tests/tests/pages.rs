@@ -98,7 +98,7 @@ fn a_refused_opening_has_its_own_ground_and_no_year() {
 fn a_length_over_the_limit_is_followed_by_the_year() {
     let opening = stream_of(&[&listing::opening().bytes()]);
     let file = stream_of(&[&listing::file(1_000).bytes()]);
-    let input = [&opening[..], &49_153u32.to_le_bytes(), &file].concat();
+    let input = [&opening[..], &61_441u32.to_le_bytes(), &file].concat();
     assert_eq!(page(11, &input), "refused,1,7\nyear,11,0,0,0,0,0\n");
 }
 

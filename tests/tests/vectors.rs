@@ -2,6 +2,7 @@
 
 use npa_tests::layout::{hex, ledger_bytes, result_bytes, stream_of};
 use npa_tests::listing;
+use npa_tests::random::SETTLING_GROUNDS;
 use npa_tests::reference::{event, npalist, open, settle};
 use npa_tests::streams::document;
 use npa_tests::vectors::{vector, vectors, Operation, FILES, FOLDER};
@@ -9,7 +10,7 @@ use std::collections::{BTreeMap, BTreeSet};
 use std::fs;
 
 /// The rules that the reference has.
-const RULES: &str = "n5,n6,n7,n10";
+const RULES: &str = "n2,n5,n6,n7,n10";
 
 /// The ground, if the case has one.
 fn ground(operation: &Operation) -> Option<u32> {
@@ -45,11 +46,11 @@ fn the_reference_gives_every_case() {
         }
     }
     let wanted = [
-        ("event", 40),
-        ("list", 40),
-        ("open", 120),
+        ("event", 60),
+        ("list", 80),
+        ("open", 40),
         ("page", 60),
-        ("settle", 160),
+        ("settle", 400),
     ];
     assert_eq!(counts, BTreeMap::from(wanted));
     for name in ["open", "settle", "event"] {
@@ -57,6 +58,9 @@ fn the_reference_gives_every_case() {
     }
     for ground in [1, 2, 23, 3, 4, 5] {
         assert!(grounds.contains(&("open", ground)), "open: {ground}");
+    }
+    for ground in SETTLING_GROUNDS {
+        assert!(grounds.contains(&("settle", ground)), "settle: {ground}");
     }
 }
 

@@ -10,7 +10,7 @@ use crate::compare::{Call, Calls, Pair};
 use crate::npa;
 use crate::settlings::{self, some_size};
 use crate::vectors::Answered;
-use npa_tests::layout::{put_longs, result_bytes, stream_of, word_at, Ledger};
+use npa_tests::layout::{put_longs, result_bytes, stream_of, word_at, IntervalFile, Ledger};
 use npa_tests::listing::{self, DAYS, IDS, NET_CONE};
 use npa_tests::random::{event_call, EventCall, Rng};
 use npa_tests::reference;
@@ -22,7 +22,7 @@ pub const PAIR: Pair<3> = Pair {
     written: ["ledger", "result", "count"],
     module: |files, [ledger, result, count]| npa::event(ledger, files, result, count),
     reference: |files, [ledger, result, count]| reference::event(ledger, files, result, count),
-    answers: &[0, 6, 7, 8, 9, 10, 11, 12, 13, 14, 15, 16, 20, 22],
+    answers: &[0, 6, 7, 8, 9, 10, 11, 12, 13, 18, 14, 15, 16, 20, 22],
 };
 
 /// The module's event beside the module's own settling, file by file.
@@ -154,13 +154,26 @@ impl EventCase {
 
 /// So many files of document 01's listing, an interval and a few kW of bonus apart.
 fn listings(count: u32) -> EventCase {
-    let file = |number| {
-        let mut file = listing::file(1_000 + number);
-        file.rows[3][4] += 10 * number;
-        file.bytes()
-    };
     let ledger = Ledger::new(NET_CONE, DAYS, &IDS);
+    let file = |number| listing_file(number).bytes();
     EventCase::new(ledger, (0..count).map(file).collect(), IDS.len())
+}
+
+/// The same, every second file in format 2.
+fn mixed(count: u32) -> EventCase {
+    let ledger = Ledger::new(NET_CONE, DAYS, &IDS);
+    let file = |number| match number % 2 {
+        0 => listing_file(number).bytes(),
+        _ => listing_file(number).in_format_2().bytes(),
+    };
+    EventCase::new(ledger, (0..count).map(file).collect(), IDS.len())
+}
+
+/// The listing's file with this number.
+fn listing_file(number: u32) -> IntervalFile {
+    let mut file = listing::file(1_000 + number);
+    file.rows[3][4] += 10 * number;
+    file
 }
 
 fn fixed(rng: &mut Rng) -> Vec<Call<3>> {
@@ -186,9 +199,9 @@ fn single_files(rng: &mut Rng) -> Vec<Call<3>> {
         .collect()
 }
 
-/// Two files of the listing with each bit of their buffer turned.
+/// Two files of the listing, one of each format, with each bit of their buffer turned.
 fn single_bits(rng: &mut Rng) -> Vec<Call<3>> {
-    let call = listings(2).call(rng);
+    let call = mixed(2).call(rng);
     let turned = |bit: usize| {
         let mut read = call.read.clone();
         read[bit / 8] ^= 1 << (bit % 8);
@@ -224,6 +237,7 @@ mod tests {
     fn the_base_case_is_accepted() {
         for files in [0, 1, 2, 50] {
             assert_eq!(answer(&listings(files)), (0, Some(files.into())));
+            assert_eq!(answer(&mixed(files)), (0, Some(files.into())));
         }
     }
 }

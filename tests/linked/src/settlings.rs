@@ -7,17 +7,18 @@ pub mod faults;
 pub mod file_bounds;
 pub mod ledger_bounds;
 pub mod row_bounds;
+pub mod schedules;
 
 use crate::compare::{Call, Calls, Pair};
 use crate::npa;
 use crate::vectors::Answered;
 use npa_tests::layout::{
-    put_words, result_bytes, IntervalFile, Ledger, Row, IMPORTS_MOST, KW_MOST,
+    put_words, result_bytes, IntervalFile, Ledger, Row, RowWords, IMPORTS_MOST, KW_MOST,
 };
 use npa_tests::listing::{self, DAYS, IDS, NET_CONE};
 use npa_tests::random::{
     cut, flip, long_settle, rising, scramble, settle_call_for, valid_settle, Rng, SettleCall,
-    SettleCase, Size, FULL, MIDDLE, SMALL,
+    SettleCase, Size, FULL, MIDDLE, SETTLING_GROUNDS, SMALL,
 };
 use npa_tests::reference;
 use npa_tests::vectors::{self, Operation};
@@ -28,7 +29,7 @@ pub const PAIR: Pair<2> = Pair {
     written: ["ledger", "result"],
     module: |file, [ledger, result]| npa::settle(ledger, file, result),
     reference: |file, [ledger, result]| reference::settle(ledger, file, result),
-    answers: &[0, 6, 7, 8, 9, 10, 11, 12, 13, 14, 15, 16],
+    answers: &[0, 6, 7, 8, 9, 10, 11, 12, 13, 18, 14, 15, 16],
 };
 
 pub const CALLS: Calls<2> = Calls { fixed, random };
@@ -67,10 +68,11 @@ pub fn answered(operation: Operation) -> Option<Answered<2>> {
 fn fixed(rng: &mut Rng) -> Vec<Call<2>> {
     let mut cases = ledger_bounds::cases();
     cases.extend(file_bounds::cases());
-    cases.extend(row_bounds::cases());
+    cases.extend(in_both(row_bounds::cases()));
+    cases.extend(schedules::cases());
     cases.extend(charges::cases());
-    cases.extend(curves::cases());
-    cases.extend(extremes::cases());
+    cases.extend(in_both(curves::cases()));
+    cases.extend(in_both(extremes::cases()));
     cases.extend(faults::cases());
     let mut calls: Vec<Call<2>> = cases.iter().map(|case| case.call(rng).into()).collect();
     calls.extend(single_bits(rng));
@@ -91,13 +93,31 @@ fn listing() -> SettleCase {
     settling_of(&IDS, listing::file(1_000))
 }
 
-/// The same in a ledger of 2016.
+/// The same in each format.
+fn listings() -> [SettleCase; 2] {
+    [listing(), in_format_2(&listing())]
+}
+
+/// A case of format 1 in format 2, its tables behind the header.
+fn in_format_2(case: &SettleCase) -> SettleCase {
+    with(case, |case| {
+        case.file = case.file.clone().in_format_2();
+    })
+}
+
+/// Cases of format 1, which lie plainly, and then the same in format 2.
+fn in_both(cases: Vec<SettleCase>) -> Vec<SettleCase> {
+    let again: Vec<SettleCase> = cases.iter().map(in_format_2).collect();
+    [cases, again].concat()
+}
+
+/// The listing in a ledger of 2016.
 fn listing_of_2016() -> SettleCase {
     with(&listing(), |case| case.ledger.words[7] = 2016)
 }
 
 /// A demand resource that is 40 kW short.
-fn short_row(id: u32) -> [u32; 14] {
+fn short_row(id: u32) -> RowWords {
     let row = Row {
         id,
         kind: 1,
@@ -123,10 +143,10 @@ fn with(case: &SettleCase, change: impl FnOnce(&mut SettleCase)) -> SettleCase {
     changed
 }
 
-/// The listing with each bit of its ledger and of its file turned, without a year and in 2016.
+/// The listing in each format, and in 2016, with each bit of its ledger and of its file turned.
 fn single_bits(rng: &mut Rng) -> Vec<Call<2>> {
-    let cases = [listing(), listing_of_2016()];
-    cases
+    let [one, two] = listings();
+    [one, two, listing_of_2016()]
         .iter()
         .flat_map(|case| bits_of(&case.call(rng)))
         .collect()
@@ -150,13 +170,14 @@ fn bits_of(call: &SettleCall) -> Vec<Call<2>> {
 
 fn random(rng: &mut Rng, number: u64) -> Call<2> {
     let size = some_size(rng);
-    let call = match number % 16 {
-        kind @ 0..=10 => settle_call_for(rng, &size, 6 + kind as u32),
-        11 if rng.one_in(4) => long_settle(rng, &size),
-        11 => broken(rng, &size, |call| &mut call.ledger),
-        12 => broken(rng, &size, |call| &mut call.file),
-        13 => any_file(rng),
-        14 => any_ledger(rng),
+    let kind = number as usize % (SETTLING_GROUNDS.len() + 5);
+    let call = match kind.checked_sub(SETTLING_GROUNDS.len()) {
+        None => settle_call_for(rng, &size, SETTLING_GROUNDS[kind]),
+        Some(0) if rng.one_in(4) => long_settle(rng, &size),
+        Some(0) => broken(rng, &size, |call| &mut call.ledger),
+        Some(1) => broken(rng, &size, |call| &mut call.file),
+        Some(2) => any_file(rng),
+        Some(3) => any_ledger(rng),
         _ => any_words(rng),
     };
     call.into()
@@ -186,8 +207,8 @@ fn broken(rng: &mut Rng, size: &Size, buffer: fn(&mut SettleCall) -> &mut Vec<u8
 /// A file of any bytes, its first words often those of a file to accept.
 fn any_file(rng: &mut Rng) -> SettleCall {
     let mut call = valid_settle(rng, &SMALL).call(rng);
-    let length = rng.pick(&[0, 40, 96, 49_110]) + rng.index(60);
-    let right = rng.pick(&[0, 4, 16, 24, 28, 32, 40]);
+    let length = rng.pick(&[0, 40, 96, 49_110, 61_400]) + rng.index(60);
+    let right = rng.pick(&[0, 4, 16, 24, 28, 32, 40, 48]);
     let head: Vec<u8> = call.file.iter().copied().take(right).collect();
     call.file = rng.bytes(length);
     for (byte, value) in call.file.iter_mut().zip(head) {
@@ -209,21 +230,9 @@ fn any_ledger(rng: &mut Rng) -> SettleCall {
 
 /// The listing with words near their bounds, any of them at once.
 fn any_words(rng: &mut Rng) -> SettleCall {
-    let mut case = listing();
-    let end = case.file.length as u32;
-    for (word, bounds) in [
-        (1, &[0, 1_000, 105_119][..]),
-        (4, &[0, 1]),
-        (5, &[0, IMPORTS_MOST as u32, -IMPORTS_MOST as u32]),
-        (6, &[1, 4, 512]),
-        (7, &[40, end]),
-        (8, &[0, 6, 2_048]),
-        (9, &[40, 264, end]),
-    ] {
-        if rng.one_in(12) {
-            case.file.head[word] = rng.near(bounds);
-        }
-    }
+    let [one, two] = listings();
+    let mut case = if rng.one_in(2) { one } else { two };
+    damage_header(rng, &mut case.file);
     case.ledger.words[3] = rng.pick(&[0, 999, 1_000, 1_000, 1_001]);
     let year = u64::from(rng.near(&[2016, 2018, 2023]));
     case.ledger.words[7] = rng.pick(&[0, 0, 2016, 2018, year]);
@@ -231,12 +240,34 @@ fn any_words(rng: &mut Rng) -> SettleCall {
     let mut call = case.call(rng);
     let least_kw = 0u32.wrapping_sub(KW_MOST);
     let bounds = [0, 1, 2, 4, 10, KW_MOST, least_kw, 1_000_000, 3_000];
+    let header = case.file.format.header_bytes();
     for _ in 0..rng.below(4) {
-        let at = 40 + 4 * rng.index((call.file.len() - 40) / 4);
+        let at = header + 4 * rng.index((call.file.len() - header) / 4);
         let word = rng.near(&bounds);
         put_words(&mut call.file, at, &[word]);
     }
     call
+}
+
+/// Sets some words of a header near their bounds.
+fn damage_header(rng: &mut Rng, file: &mut IntervalFile) {
+    let [header, end] = [file.format.header_bytes(), file.length].map(|bytes| bytes as u32);
+    let words = [
+        (1, vec![0, 1_000, 105_119]),
+        (4, vec![0, 1]),
+        (5, vec![0, IMPORTS_MOST as u32, -IMPORTS_MOST as u32]),
+        (6, vec![1, 4, 512]),
+        (7, vec![header, end]),
+        (8, vec![0, 6, 2_048]),
+        (9, vec![header, file.points_at as u32, end]),
+        (10, vec![0, 3, 1_024]),
+        (11, vec![header, file.schedules_at as u32, end]),
+    ];
+    for (word, bounds) in words {
+        if rng.one_in(12) {
+            file.head[word] = rng.near(&bounds);
+        }
+    }
 }
 
 /// The reference's answer.
@@ -253,7 +284,7 @@ mod tests {
 
     #[test]
     fn the_base_cases_are_accepted() {
-        assert_eq!(answer(&listing()), 0);
+        assert_eq!(listings().each_ref().map(answer), [0, 0]);
         assert_eq!(answer(&plain(1, 1)), 0);
         assert_eq!(answer(&plain(512, 512)), 0);
     }

@@ -24,7 +24,8 @@ fn small(held: &mut Held, rng: &mut Rng) -> Result<(), String> {
         held.hold_all(&cases, Input::File)?;
         held.hold_all(&cases, Input::Pieces(900))?;
     }
-    held.hold_parted(&streams::prefixes()[streams::two_intervals().len()])
+    let prefixes = streams::prefixes();
+    held.hold_parted(prefixes.last().expect("the whole stream"))
 }
 
 /// The listing of a vector.

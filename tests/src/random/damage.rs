@@ -3,9 +3,9 @@
 use super::world::{lay_out, pool_at_limit, spread_credits, valid_open, valid_settle, World};
 use super::{OpenCase, Rng, SettleCase, Size};
 use crate::layout::{
-    ledger_bytes, result_bytes, IntervalFile, Ledger, Opening, BLOCK_MOST, CREDITED_MOST,
-    DAY_INTERVALS, FILE_MOST, HALVED_YEAR, HEADER_BYTES, IDS_MOST, IMPORTS_MOST, KW_MOST,
-    POINTS_MOST, POOL_MOST, PRICE_MOST, ROWS_MOST, ROW_POINTS_MOST,
+    ledger_bytes, result_bytes, Format, IntervalFile, Ledger, Opening, BLOCK_MOST, CREDITED_MOST,
+    CURVE_POINTS_MOST, DAY_INTERVALS, HALVED_YEAR, IDS_MOST, IMPORTS_MOST, KW_MOST, MARKET,
+    POINTS_MOST, POOL_MOST, PRICE_MOST, ROWS_MOST, ROW_SCHEDULES_MOST, SCHEDULES_MOST,
 };
 
 /// The lowest bit of a word's upper half.
@@ -163,13 +163,8 @@ pub(crate) fn damage_settle(rng: &mut Rng, size: &Size, ground: u32, case: &mut 
         6 => damage_ledger(rng, size, case),
         7 => {
             let file = &mut case.file;
-            damage_whole(
-                rng,
-                size,
-                (HEADER_BYTES, FILE_MOST),
-                &mut file.length,
-                &mut file.head[0],
-            );
+            let bounds = (file.format.header_bytes(), file.format.most());
+            damage_whole(rng, size, bounds, &mut file.length, &mut file.head[0]);
         }
         8 => damage_file_terms(rng, &mut case.file),
         9 => damage_event(rng, &mut case.file),
@@ -177,6 +172,7 @@ pub(crate) fn damage_settle(rng: &mut Rng, size: &Size, ground: u32, case: &mut 
         11 => damage_tables(rng, size, &mut case.file),
         12 => damage_row_ids(rng, case),
         13 => damage_row(rng, &mut case.file),
+        18 => damage_schedules(rng, size, &mut case.file),
         14 => damage_points(rng, size, &mut case.file),
         15 => damage_room(
             rng,
@@ -359,89 +355,118 @@ fn damage_order(rng: &mut Rng, case: &mut SettleCase) {
 
 /// Ground 11: number and place of the tables.
 fn damage_tables(rng: &mut Rng, size: &Size, file: &mut IntervalFile) {
-    let (rows, points) = (file.rows.len() as u32, file.points.len() as u32);
-    let end = file.length as u32;
+    let table = rng.index(file.format.tables());
     match rng.below(10) {
-        0 => {
-            let counts = [0, rows - 1, rows + 1, 512, 513, 1 << 26, 1 << 29, u32::MAX];
-            file.head[6] = size.pick_count(rng, &counts);
-        }
-        1 => {
-            let counts = [points + 1, 600, 2048, 2049, 1 << 29, (1 << 29) + points];
-            file.head[8] = size.pick_count(rng, &counts);
-        }
-        2 => file.head[7] = edge_offset(rng, file.row_bytes() as u32, end),
-        3 => file.head[9] = edge_offset(rng, file.point_bytes() as u32, end),
-        4 => {
-            let start = rng.pick(&[39, 40, 41]);
-            let points_at = start + file.row_bytes();
-            file.place(start, points_at, points_at + file.point_bytes());
-        }
-        5 => clear_points(rng, file),
+        0 | 1 => file.head[6 + 2 * table] = damaged_count(rng, size, file, table),
+        2 | 3 => file.head[7 + 2 * table] = edge_offset(rng, file, table),
+        4 => file.place_from(file.format.header_bytes() - 1 + rng.index(3)),
+        5 => clear_tables(rng, file),
         6 => {
             lay_out(rng, &Size { gap: 0, ..*size }, file);
             file.length -= rng.index(2);
         }
-        7 if size.long => fill_table(rng, size, file),
-        _ => overlap(rng, file),
+        7 if size.long => fill_table(rng, size, file, table),
+        _ => overlap(rng, file, table),
     }
 }
 
-/// As many rows or points as are allowed, or one more, all really there.
-fn fill_table(rng: &mut Rng, size: &Size, file: &mut IntervalFile) {
-    if rng.one_in(2) {
-        file.points.resize(POINTS_MOST + rng.index(2), [0, 0]);
-    } else {
-        let last = file.rows[file.rows.len() - 1];
-        file.rows.resize(ROWS_MOST + rng.index(2), last);
+/// A number of rows, points or schedules: next to what is there, at its bound, or one whose bytes fit only if a product
+/// wraps.
+fn damaged_count(rng: &mut Rng, size: &Size, file: &IntervalFile, table: usize) -> u32 {
+    let counts =
+        [file.rows.len(), file.points.len(), file.schedules.len()].map(|count| count as u32);
+    let most = [ROWS_MOST, POINTS_MOST, SCHEDULES_MOST][table] as u32;
+    let count = counts[table];
+    let near = [
+        count.saturating_sub(1),
+        count + 1,
+        0,
+        512,
+        513,
+        600,
+        most,
+        most + 1,
+    ];
+    let far = [
+        1 << 26,
+        1 << 29,
+        (1 << 29) + count,
+        (1 << 30) + count,
+        u32::MAX,
+    ];
+    size.pick_count(rng, &[&near[..], &far].concat())
+}
+
+/// As many rows, points or schedules as are allowed, or one more, all really there.
+fn fill_table(rng: &mut Rng, size: &Size, file: &mut IntervalFile, table: usize) {
+    let more = rng.index(2);
+    match table {
+        0 => {
+            let last = file.rows[file.rows.len() - 1];
+            file.rows.resize(ROWS_MOST + more, last);
+        }
+        1 => file.points.resize(POINTS_MOST + more, [0, 0]),
+        _ => file.schedules.resize(SCHEDULES_MOST + more, [0; 3]),
     }
     lay_out(rng, size, file);
 }
 
 /// An offset at an end of the file, or one that fits only if it wraps.
-fn edge_offset(rng: &mut Rng, bytes: u32, end: u32) -> u32 {
+fn edge_offset(rng: &mut Rng, file: &IntervalFile, table: usize) -> u32 {
+    let [header, bytes, end] = [
+        file.format.header_bytes(),
+        file.table_bytes()[table],
+        file.length,
+    ]
+    .map(|bytes| bytes as u32);
     let near = end.saturating_sub(bytes);
     let wrap = 0u32.wrapping_sub(bytes);
     match rng.below(3) {
-        0 => rng.pick(&[0, 39, 40, near, near + 1]),
+        0 => rng.pick(&[0, 40, header - 1, header, near, near + 1]),
         1 => rng.pick(&[end, end + 1, 1 << 31, u32::MAX]),
-        _ => rng.pick(&[wrap, wrap.wrapping_add(40), wrap.wrapping_add(end)]),
+        _ => rng.pick(&[wrap, wrap.wrapping_add(header), wrap.wrapping_add(end)]),
     }
 }
 
-/// No points, with their offset in and around the file.
-fn clear_points(rng: &mut Rng, file: &mut IntervalFile) {
-    file.points.clear();
+/// No points, no schedules or neither, with the offset of an empty table in and around the file.
+fn clear_tables(rng: &mut Rng, file: &mut IntervalFile) {
+    let table = rng.index(file.format.tables() - 1) + 1;
+    if table == 1 || rng.one_in(2) {
+        file.points.clear();
+    }
+    file.schedules.clear();
     for row in &mut file.rows {
-        row[13] = 0;
+        (row[13], row[14]) = (0, 0);
     }
-    let end = file.rows_at + file.row_bytes();
-    let length = end + rng.index(3);
-    file.place(file.rows_at, 40, length);
+    file.place_from(file.rows_at);
+    file.length += rng.index(3);
     let inside = file.rows_at as u32 + 1;
-    let length = length as u32;
-    file.head[9] = rng.pick(&[0, 39, 40, inside, length, length + 1, u32::MAX]);
+    let [header, length] = [file.format.header_bytes(), file.length].map(|bytes| bytes as u32);
+    file.head[7 + 2 * table] =
+        rng.pick(&[0, header - 1, header, inside, length, length + 1, u32::MAX]);
 }
 
-/// Tables that touch or share one byte, in either order, or start together.
-fn overlap(rng: &mut Rng, file: &mut IntervalFile) {
+/// Two tables that touch or share one byte, or start together; none is empty.
+fn overlap(rng: &mut Rng, file: &mut IntervalFile, first: usize) {
     if file.points.is_empty() {
         file.points.push([0, 0]);
     }
-    let (rows, points) = (file.row_bytes(), file.point_bytes());
-    let shared = rng.index(2);
-    let start = HEADER_BYTES + rng.index(3);
-    match rng.below(5) {
-        0 | 1 => {
-            let second = start + rows - shared;
-            file.place(start, second, second + points);
-        }
-        2 | 3 => {
-            let second = start + points - shared;
-            file.place(second, start, second + rows);
-        }
-        _ => file.place(start, start + 8 * shared, start + rows + points + 8),
+    if file.schedules.is_empty() {
+        file.schedules.push([MARKET, 0, 1]);
     }
+    let sizes = file.table_bytes();
+    let tables = file.format.tables();
+    let second = (first + 1 + rng.index(tables - 1)) % tables;
+    let (start, shared) = (file.format.header_bytes() + rng.index(3), rng.index(2));
+    let mut at = [start; 3];
+    at[second] = match rng.below(5) {
+        0 => start + 8 * shared,
+        _ => start + sizes[first] - shared,
+    };
+    let end = (start + sizes[first]).max(at[second] + sizes[second]);
+    let third = 3 - first - second;
+    at[third] = end;
+    file.place_three(at, end + sizes[third]);
 }
 
 /// Ground 12: row ids that do not rise or have no account.
@@ -504,33 +529,121 @@ fn damage_row(rng: &mut Rng, file: &mut IntervalFile) {
     }
 }
 
-/// Ground 14: number, place and values of a row's points.
-fn damage_points(rng: &mut Rng, size: &Size, file: &mut IntervalFile) {
-    let index = rng.index(file.rows.len());
-    match rng.below(8) {
+/// Ground 18: number, place and kind of a row's schedules, and the one dispatched on.
+fn damage_schedules(rng: &mut Rng, size: &Size, file: &mut IntervalFile) {
+    if file.format == Format::One {
+        *file = file.clone().in_format_2();
+    }
+    let row = rng.index(file.rows.len());
+    if file.rows[row][13] == 0 || rng.one_in(4) {
+        let count = rng.pick(&[1, 2, ROW_SCHEDULES_MOST, ROW_SCHEDULES_MOST + 1]);
+        append_schedules(rng, size, file, row, count);
+    }
+    let count = file.rows[row][13];
+    match rng.below(5) {
         0 => {
-            let count = ROW_POINTS_MOST + rng.index(2);
-            append_curve(rng, size, file, index, count);
+            file.rows[row][13] =
+                size.pick_count(rng, &[3, 4, 5, 6, 255, 256, 260, 1 << 31, u32::MAX])
         }
         1 => {
-            file.rows[index][12] = rng.pick(&[0, 1, 1 << 31, u32::MAX]);
-            file.rows[index][13] = 0;
+            let schedules = file.schedules.len() as u32;
+            file.rows[row][12] = damaged_first(rng, file.rows[row][12], count, schedules);
         }
         2 => {
-            let count = size.pick_count(rng, &[10, 11, 12, 255, 256, 600, 1 << 31, u32::MAX]);
-            file.rows[index][13] = count;
+            let named = file.rows[row][12] as usize + rng.index(count as usize);
+            file.schedules[named][0] = rng.pick(&[0, 1, 2, 3, 4, 255, 257, 1 << 31, u32::MAX]);
         }
-        3 | 4 => damage_first_point(rng, file, index),
+        3 => {
+            file.rows[row][14] = rng.pick(&[count - 1, count, count + 1, 4, 256, 1 << 31, u32::MAX])
+        }
         _ => {
-            let count = 1 + rng.index(4);
-            append_curve(rng, size, file, index, count);
-            damage_curve(rng, file, index);
+            let first = rng.pick(&[0, 1, 1 << 31, u32::MAX]);
+            let dispatched = rng.pick(&[0, 1, 2, 256, u32::MAX]);
+            file.rows[row][12..].copy_from_slice(&[first, 0, dispatched]);
         }
     }
 }
 
-/// Gives a row a fresh curve at the table's end.
-fn append_curve(rng: &mut Rng, size: &Size, file: &mut IntervalFile, row: usize, count: usize) {
+/// Gives a row fresh schedules at the table's end, as long as there is room; each has the first point.
+fn append_schedules(rng: &mut Rng, size: &Size, file: &mut IntervalFile, row: usize, count: usize) {
+    let first = (SCHEDULES_MOST - count).min(file.schedules.len());
+    file.schedules.truncate(first);
+    if file.points.is_empty() {
+        file.points.push([0, 0]);
+    }
+    for index in 0..count as u32 {
+        file.schedules.push([MARKET + index % 3, 0, 1]);
+    }
+    let dispatched = rng.index(count) as u32;
+    file.rows[row][12..].copy_from_slice(&[first as u32, count as u32, dispatched]);
+    lay_out(rng, size, file);
+}
+
+/// A first entry at the table's end, behind it, or in it only if it wraps.
+fn damaged_first(rng: &mut Rng, first: u32, count: u32, entries: u32) -> u32 {
+    let near = entries.saturating_sub(count);
+    let wrap = 0u32.wrapping_sub(count);
+    let high = first.wrapping_add(rng.pick(&[1 << 29, 1 << 31]));
+    rng.pick(&[near, near + 1, entries, wrap, u32::MAX, high])
+}
+
+/// What names a curve: a row of format 1, or a schedule.
+#[derive(Clone, Copy)]
+enum Namer {
+    Row(usize),
+    Schedule(usize),
+}
+
+/// First point and number of points.
+fn curve_words(file: &mut IntervalFile, namer: Namer) -> &mut [u32] {
+    match namer {
+        Namer::Row(row) => &mut file.rows[row][12..14],
+        Namer::Schedule(schedule) => &mut file.schedules[schedule][1..],
+    }
+}
+
+/// What names a curve of some row; one of format 2 without schedules gets one.
+fn some_namer(rng: &mut Rng, size: &Size, file: &mut IntervalFile) -> Namer {
+    let row = rng.index(file.rows.len());
+    if file.format == Format::One {
+        return Namer::Row(row);
+    }
+    if file.rows[row][13] == 0 {
+        append_schedules(rng, size, file, row, 1);
+    }
+    let [first, count] = [12, 13].map(|word| file.rows[row][word] as usize);
+    Namer::Schedule(first + rng.index(count))
+}
+
+/// Ground 14: number, place and values of the points of a row or schedule.
+fn damage_points(rng: &mut Rng, size: &Size, file: &mut IntervalFile) {
+    let namer = some_namer(rng, size, file);
+    match rng.below(8) {
+        0 => {
+            let count = CURVE_POINTS_MOST + rng.index(2);
+            append_curve(rng, size, file, namer, count);
+        }
+        1 => curve_words(file, namer).copy_from_slice(&[rng.pick(&[0, 1, 1 << 31, u32::MAX]), 0]),
+        2 => {
+            let count = size.pick_count(rng, &[10, 11, 12, 255, 256, 600, 1 << 31, u32::MAX]);
+            curve_words(file, namer)[1] = count;
+        }
+        3 | 4 => {
+            let points = file.points.len() as u32;
+            let words = curve_words(file, namer);
+            words[1] = words[1].max(1);
+            words[0] = damaged_first(rng, words[0], words[1], points);
+        }
+        _ => {
+            let count = 1 + rng.index(4);
+            append_curve(rng, size, file, namer, count);
+            damage_curve(rng, file, namer);
+        }
+    }
+}
+
+/// Names a fresh curve at the table's end.
+fn append_curve(rng: &mut Rng, size: &Size, file: &mut IntervalFile, namer: Namer, count: usize) {
     if file.points.len() + count > POINTS_MOST {
         return;
     }
@@ -540,29 +653,15 @@ fn append_curve(rng: &mut Rng, size: &Size, file: &mut IntervalFile, row: usize,
         let kw = (1_000 * step) as u64 + rng.below(1_000);
         file.points.push([price as i32 as u32, kw as u32]);
     }
-    file.rows[row][12] = first;
-    file.rows[row][13] = count as u32;
+    curve_words(file, namer).copy_from_slice(&[first, count as u32]);
     lay_out(rng, size, file);
 }
 
-/// A first point at the table's end, behind it, or in it only if it wraps.
-fn damage_first_point(rng: &mut Rng, file: &mut IntervalFile, row: usize) {
-    let points = file.points.len() as u32;
-    let row = &mut file.rows[row];
-    if row[13] == 0 {
-        row[13] = 1;
-    }
-    let near = points.saturating_sub(row[13]);
-    let wrap = 0u32.wrapping_sub(row[13]);
-    let high = row[12].wrapping_add(rng.pick(&[1 << 29, 1 << 31]));
-    row[12] = rng.pick(&[near, near + 1, points, wrap, u32::MAX, high]);
-}
-
 /// One word of a curve at or beyond its bound, level with the one before or below it.
-fn damage_curve(rng: &mut Rng, file: &mut IntervalFile, row: usize) {
+fn damage_curve(rng: &mut Rng, file: &mut IntervalFile, namer: Namer) {
     let price = PRICE_MOST;
-    let first = file.rows[row][12] as usize;
-    let count = file.rows[row][13] as usize;
+    let words = curve_words(file, namer);
+    let (first, count) = (words[0] as usize, words[1] as usize);
     let points = file.points.get_mut(first..first + count);
     let Some(points) = points.filter(|points| !points.is_empty()) else {
         return;

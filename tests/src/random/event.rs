@@ -2,8 +2,11 @@
 //! price, most of them near what they owe, some short, some out.
 
 use super::Rng;
-use crate::layout::{point, IntervalFile, Row};
+use crate::layout::{point, IntervalFile, Row, COST, MARKET, PLS, ROW_SCHEDULES_MOST};
 use crate::listing::{DAYS, NET_CONE};
+
+/// The kinds of the schedules that two rows share.
+const SHARED_KINDS: [u32; ROW_SCHEDULES_MOST] = [MARKET, PLS, COST, COST];
 
 /// A file to accept with a row for each id, each with a curve of its own of so many points.
 pub fn event_file(rng: &mut Rng, interval: u32, ids: &[u32], row_points: usize) -> IntervalFile {
@@ -21,6 +24,25 @@ pub fn event_file(rng: &mut Rng, interval: u32, ids: &[u32], row_points: usize) 
     let imports = 5_000 * ids.len() as i64;
     file.head[5] = rng.between(-imports, imports) as u32;
     file
+}
+
+/// The file of format 1, in which each row has a curve, in format 2 with four schedules a row. Two rows share their
+/// schedules and two schedules their points, so that the most rows name the most schedules.
+pub fn four_schedules(rng: &mut Rng, mut file: IntervalFile) -> IntervalFile {
+    let curves: Vec<[u32; 2]> = file.rows.iter().map(|row| [row[12], row[13]]).collect();
+    let mut schedules = Vec::new();
+    for (pair, rows) in file.rows.chunks_mut(2).enumerate() {
+        let first = schedules.len() as u32;
+        for (number, kind) in SHARED_KINDS.into_iter().enumerate() {
+            let [point, points] = curves[2 * pair + number / 2 % rows.len()];
+            schedules.push([kind, point, points]);
+        }
+        for row in rows {
+            let dispatched = rng.index(ROW_SCHEDULES_MOST) as u32;
+            row[12..].copy_from_slice(&[first, ROW_SCHEDULES_MOST as u32, dispatched]);
+        }
+    }
+    file.with_schedules(schedules)
 }
 
 /// A plant and what it did, without price and points.

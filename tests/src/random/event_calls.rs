@@ -77,6 +77,14 @@ pub fn event_of_one(rng: &mut Rng, size: &Size, ground: u32) -> EventCall {
     }
 }
 
+/// An event of one file that this ground of settling refuses.
+pub fn refused_alone(rng: &mut Rng, size: &Size, ground: u32) -> EventCall {
+    first_made(&format!("an event of one file refused by {ground}"), || {
+        let call = event_of_one(rng, size, ground);
+        ends(&call, ground, 0).then_some(call)
+    })
+}
+
 /// An event of three files, settled up to this place, where this ground from 7 to 15 refuses, or 22.
 pub fn refused_event(rng: &mut Rng, size: &Size, place: usize, ground: u32) -> EventCall {
     first_made(&format!("an event refused by {ground} at {place}"), || {

@@ -1,10 +1,10 @@
 //! Delivery years, and what is valid in them: openings, ledgers, files, and settlings to accept.
 
+use super::offers::{Offer, Offers, Stretch};
 use super::{first_made, OpenCase, Rng, SettleCase, Size};
 use crate::layout::{
-    self, ledger_bytes, long_at, result_bytes, IntervalFile, Ledger, Opening, Row, Terms,
-    DAY_INTERVALS, HALVED_YEAR, HEADER_BYTES, IDS_MOST, IMPORTS_MOST, KW_MOST, POINTS_MOST,
-    POOL_MOST, YEARS,
+    self, ledger_bytes, long_at, result_bytes, Format, IntervalFile, Ledger, Opening, Row, Terms,
+    DAY_INTERVALS, HALVED_YEAR, IDS_MOST, IMPORTS_MOST, KW_MOST, POINTS_MOST, POOL_MOST, YEARS,
 };
 use crate::reference;
 
@@ -193,7 +193,7 @@ impl World {
         ledger
     }
 
-    /// A valid file for an interval.
+    /// A valid file for an interval, of either format.
     pub(crate) fn file(&self, rng: &mut Rng, size: &Size, interval: u32) -> IntervalFile {
         let most = self.ids.len().min(size.rows);
         let count = if rng.one_in(2) { most } else { rng.up_to(most) };
@@ -209,19 +209,26 @@ impl World {
             &[0, 3],
             &[1, 5],
         ]);
-        let (points, curves) = self.points(rng, size, count);
+        let offers = Offers::any(rng, size, count, self);
         let rows = ids
             .iter()
-            .map(|id| self.row(rng, *id, kinds, &points, &curves).words())
+            .map(|id| {
+                let offer = offers.some(rng);
+                self.row(rng, *id, kinds, &offer)
+            })
             .collect();
-        let mut file = IntervalFile::new(self.net_cone, self.days, interval, rows, points);
+        let mut file = offers.file(self, interval, rows);
         file.head[4] = rng.below(2) as u32;
         file.head[5] = self.imports(rng, count) as u32;
+        if file.format == Format::Two && rng.one_in(3) {
+            // Much is expected, so that schedules decide what is excused.
+            (file.head[4], file.head[5]) = (1, IMPORTS_MOST as u32);
+        }
         lay_out(rng, size, &mut file);
         file
     }
 
-    /// A valid file with a row for every id, each with a curve of its own of so many points.
+    /// A valid file of format 1 with a row for every id, each with a curve of its own of so many points.
     pub(crate) fn full_file(
         &self,
         rng: &mut Rng,
@@ -232,10 +239,17 @@ impl World {
         for id in &self.ids {
             let first = points.len();
             points.extend(self.curve(rng, row_points));
-            let curve = (first, row_points);
-            let mut row = self.row(rng, *id, &[0, 0, 0, 1, 2, 3, 4, 5], &points, &[curve]);
-            (row.first, row.count) = (first as u32, row_points as u32);
-            rows.push(row.words());
+            let offer = Offer {
+                first,
+                count: row_points,
+                dispatched: 0,
+                several: false,
+                curve: &points[first..],
+            };
+            rows.push(
+                self.row(rng, *id, &[0, 0, 0, 1, 2, 3, 4, 5], &offer)
+                    .words(),
+            );
         }
         IntervalFile::new(self.net_cone, self.days, interval, rows, points)
     }
@@ -254,12 +268,12 @@ impl World {
     }
 
     /// A table of points and the stretches in it that are curves.
-    fn points(
+    pub(super) fn points(
         &self,
         rng: &mut Rng,
         size: &Size,
         rows: usize,
-    ) -> (Vec<[u32; 2]>, Vec<(usize, usize)>) {
+    ) -> (Vec<[u32; 2]>, Vec<Stretch>) {
         let mut points = Vec::new();
         let mut curves = Vec::new();
         let most = size.curves.min(rows + 1);
@@ -308,23 +322,15 @@ impl World {
     }
 
     /// A valid row.
-    fn row(
-        &self,
-        rng: &mut Rng,
-        id: u32,
-        kinds: &[u32],
-        points: &[[u32; 2]],
-        curves: &[(usize, usize)],
-    ) -> Row {
+    fn row(&self, rng: &mut Rng, id: u32, kinds: &[u32], offer: &Offer) -> Row {
         let kind = rng.pick(kinds);
-        let (first, count) = stretch(rng, curves);
-        let curve = &points[first..first + count];
         let mut row = Row {
             id,
             kind,
-            first: first as u32,
-            count: count as u32,
-            lmp: lmp_near(rng, curve),
+            first: offer.first as u32,
+            count: offer.count as u32,
+            dispatched: offer.dispatched as u32,
+            lmp: lmp_near(rng, offer.curve),
             online: u32::from(!rng.one_in(3)),
             ..Row::default()
         };
@@ -342,11 +348,25 @@ impl World {
         row.owned = self.owned(rng, row.committed);
         row.planned = if rng.one_in(3) { self.kw(rng) } else { 0 };
         row.forced = if rng.one_in(3) { self.kw(rng) } else { 0 };
-        (row.minimum, row.maximum) = self.range(rng, curve);
-        if count == 0 && rng.one_in(2) {
+        (row.minimum, row.maximum) = self.range(rng, offer.curve);
+        if offer.count == 0 && rng.one_in(2) {
             row.first = rng.draw() as u32;
         }
+        if kind == 0 && offer.several && rng.one_in(2) {
+            self.hold_back(rng, &mut row, offer.curve);
+        }
         row
+    }
+
+    /// Makes a row one that could give more than it does, at a price where the curve begins, so that its schedules decide
+    /// what is excused.
+    fn hold_back(&self, rng: &mut Rng, row: &mut Row, curve: &[[u32; 2]]) {
+        let first = i64::from(curve[0][0] as i32);
+        row.lmp = (first - rng.between(0, 1)).max(-PRICE_MOST) as i32;
+        row.committed = 1 + self.kw(rng).min(KW_MOST - 1);
+        (row.owned, row.maximum, row.minimum) = (KW_MOST, KW_MOST, 0);
+        (row.planned, row.forced, row.adjustment) = (0, 0, 0);
+        row.metered = self.kw(rng).min(row.committed / 4) as i32;
     }
 
     /// A meter reading near the commitment, at 0, at the limits or anywhere.
@@ -466,19 +486,6 @@ pub(super) fn spread_credits(rng: &mut Rng, ledger: &mut Ledger, sum: u64) {
     ledger.accounts[index][3] += rest;
 }
 
-/// A curve of the table, a part of one, or no points.
-fn stretch(rng: &mut Rng, curves: &[(usize, usize)]) -> (usize, usize) {
-    if curves.is_empty() || rng.one_in(6) {
-        return (0, 0);
-    }
-    let (start, count) = rng.pick(curves);
-    if rng.one_in(4) {
-        let skipped = rng.index(count);
-        return (start + skipped, 1 + rng.index(count - skipped));
-    }
-    (start, count)
-}
-
 /// An LMP at or next to a point, on the curve, at the limits or anywhere.
 fn lmp_near(rng: &mut Rng, curve: &[[u32; 2]]) -> i32 {
     let price = |point: &[u32; 2]| i64::from(point[0] as i32);
@@ -491,24 +498,31 @@ fn lmp_near(rng: &mut Rng, curve: &[[u32; 2]]) -> i32 {
     lmp.clamp(-PRICE_MOST, PRICE_MOST) as i32
 }
 
-/// Places the tables in either order with gaps; an empty one goes anywhere.
+/// Places the tables in any order with gaps; empty ones go anywhere.
 pub(super) fn lay_out(rng: &mut Rng, size: &Size, file: &mut IntervalFile) {
-    let start = HEADER_BYTES + size.pick_gap(rng);
-    let gap = size.pick_gap(rng);
-    let tail = size.pick_gap(rng);
-    let (rows, points) = (file.row_bytes(), file.point_bytes());
-    if file.points.is_empty() {
-        let length = start + rows + tail;
-        let free = HEADER_BYTES + rng.index(length - HEADER_BYTES + 1);
-        let points_at = rng.pick(&[HEADER_BYTES, length, free]);
-        file.place(start, points_at, length);
-    } else if rng.one_in(2) {
-        let second = start + rows + gap;
-        file.place(start, second, second + points + tail);
-    } else {
-        let second = start + points + gap;
-        file.place(second, start, second + rows + tail);
+    let header = file.format.header_bytes();
+    let sizes = file.table_bytes();
+    let (mut at, mut end) = ([0; 3], header);
+    for table in any_order(rng) {
+        if sizes[table] > 0 {
+            at[table] = end + size.pick_gap(rng);
+            end = at[table] + sizes[table];
+        }
     }
+    let length = end + size.pick_gap(rng);
+    for table in (0..3).filter(|table| sizes[*table] == 0) {
+        let free = header + rng.index(length - header + 1);
+        at[table] = rng.pick(&[header, length, free]);
+    }
+    file.place_three(at, length);
+}
+
+/// The numbers of three tables in any order.
+fn any_order(rng: &mut Rng) -> [usize; 3] {
+    let mut order = [0, 1, 2];
+    order.swap(2, rng.index(3));
+    order.swap(1, rng.index(2));
+    order
 }
 
 // ---------------------------------------------------------------- valid cases

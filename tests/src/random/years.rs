@@ -1,7 +1,7 @@
 //! Years of calls, and streams of them.
 
 use super::{cut, damage_settle, first_made, open_call, settle_counts_fit};
-use super::{EventCall, Rng, SettleCall, SettleCase, Size, World};
+use super::{EventCall, Rng, SettleCall, SettleCase, Size, World, SETTLING_GROUNDS};
 use crate::layout::{
     ledger_bytes, long_at, push_block, result_bytes, IntervalFile, BLOCK_MOST, FILE_MOST,
 };
@@ -113,7 +113,8 @@ impl RunningYear {
         };
         let kind = rng.below(20);
         if kind < 3 {
-            let ground = rng.between(7, 15) as u32;
+            // 6 and 16 are the ledger's.
+            let ground = rng.pick(&SETTLING_GROUNDS[1..SETTLING_GROUNDS.len() - 1]);
             damage_settle(rng, size, ground, &mut case);
             if case.file.head[1] < self.world.intervals() {
                 case.file.head[1] = interval; // no leap to the year's end

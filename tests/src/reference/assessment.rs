@@ -1,7 +1,7 @@
 //! The rules of one interval in kW, up to the shortfall and the bonus of each row.
 
-use super::curve::{considered, scheduled};
-use super::file::{points_of, Head, Point, Row};
+use super::curve::{considered, highest_scheduled, scheduled};
+use super::file::{offer, Head, Offer, Row, Tables};
 use super::file::{DEMAND, EFFICIENCY, ENERGY_ONLY, GENERATION, IMPORTER, PRD};
 use super::Whole;
 
@@ -56,19 +56,19 @@ fn available(row: &Row) -> Whole {
     (row.owned - row.planned - row.forced).max(0)
 }
 
-/// The kW above which a generator earns no bonus: its schedule, or what is available if it has sent no offer.
-fn bonus_cut(row: &Row, points: &[Point]) -> Whole {
-    if points.is_empty() {
-        available(row)
-    } else {
-        scheduled(row, points)
+/// The kW above which a generator earns no bonus: those of the schedule that it was dispatched on, or what is available
+/// if it has sent no offer.
+fn bonus_cut(row: &Row, offer: &Offer) -> Whole {
+    match offer.dispatched() {
+        Some(schedule) => scheduled(row, schedule.points),
+        None => available(row),
     }
 }
 
 /// The kW above the expected, of a generator up to its cut.
-fn bonus(row: &Row, points: &[Point], expected: Whole) -> Whole {
+fn bonus(row: &Row, offer: &Offer, expected: Whole) -> Whole {
     let counted = if is_generator(row) {
-        actual(row).min(bonus_cut(row, points))
+        actual(row).min(bonus_cut(row, offer))
     } else {
         actual(row)
     };
@@ -76,10 +76,10 @@ fn bonus(row: &Row, points: &[Point], expected: Whole) -> Whole {
 }
 
 /// What one row adds to the numerator.
-fn numerator_share(row: &Row, points: &[Point]) -> Whole {
+fn numerator_share(row: &Row, offer: &Offer) -> Whole {
     match row.kind {
         GENERATION | ENERGY_ONLY => actual(row),
-        DEMAND | PRD if considered(row, points) => bonus(row, points, expected_fixed(row)),
+        DEMAND | PRD if considered(row, offer) => bonus(row, offer, expected_fixed(row)),
         _ => 0,
     }
 }
@@ -112,12 +112,12 @@ fn outage(row: &Row) -> Whole {
 }
 
 /// The kW a generator could have given but was not scheduled for.
-fn economic(row: &Row, points: &[Point], expected: Whole) -> Whole {
+fn economic(row: &Row, offer: &Offer, expected: Whole) -> Whole {
     if !is_generator(row) {
         return 0;
     }
     let able = row.maximum.min(expected).min(available(row));
-    (able - scheduled(row, points).max(actual(row))).max(0)
+    (able - highest_scheduled(row, offer).max(actual(row))).max(0)
 }
 
 /// The kW missing after all excusals.
@@ -126,10 +126,10 @@ fn shortfall(expected: Whole, actual: Whole, outage: Whole, economic: Whole) -> 
 }
 
 /// A PRD row that is not considered has no figures, and an importer none but in a region-wide event.
-fn is_left_out(head: &Head, row: &Row, points: &[Point]) -> bool {
+fn is_left_out(head: &Head, row: &Row, offer: &Offer) -> bool {
     match row.kind {
         IMPORTER => head.region_wide == 0,
-        _ => !considered(row, points),
+        _ => !considered(row, offer),
     }
 }
 
@@ -143,39 +143,39 @@ fn expected(row: &Row, numerator: Whole, denominator: Whole) -> Whole {
 }
 
 /// All kW figures of one row of which this much is expected.
-fn figures(row: &Row, points: &[Point], expected: Whole) -> Figures {
+fn figures(row: &Row, offer: &Offer, expected: Whole) -> Figures {
     let actual = actual(row);
     let outage = outage(row);
-    let economic = economic(row, points, expected);
+    let economic = economic(row, offer, expected);
     Figures {
         expected,
         actual,
         outage,
         economic,
         shortfall: shortfall(expected, actual, outage, economic),
-        bonus: bonus(row, points, expected),
+        bonus: bonus(row, offer, expected),
     }
 }
 
 /// All kW figures of the interval.
-pub fn assess(head: &Head, rows: &[Row], table: &[Point]) -> Assessment {
-    let shares: Whole = rows
+pub fn assess(head: &Head, tables: &Tables) -> Assessment {
+    let rows: Vec<(&Row, Offer)> = tables
+        .rows
         .iter()
-        .map(|row| numerator_share(row, points_of(row, table)))
-        .sum();
-    let numerator = shares + imports_share(head);
-    let denominator = rows.iter().map(denominator_share).sum();
+        .map(|row| (row, offer(tables, row)))
+        .collect();
+    let shares = rows.iter().map(|(row, offer)| numerator_share(row, offer));
+    let numerator = shares.sum::<Whole>() + imports_share(head);
+    let denominator = tables.rows.iter().map(denominator_share).sum();
+    let figures_of = |(row, offer): &(&Row, Offer)| match is_left_out(head, row, offer) {
+        true => Figures::default(),
+        false => figures(row, offer, expected(row, numerator, denominator)),
+    };
     Assessment {
         ratio: by_ratio(1_000_000, numerator, denominator),
         numerator,
         denominator,
-        rows: rows
-            .iter()
-            .map(|row| match points_of(row, table) {
-                points if is_left_out(head, row, points) => Figures::default(),
-                points => figures(row, points, expected(row, numerator, denominator)),
-            })
-            .collect(),
+        rows: rows.iter().map(figures_of).collect(),
     }
 }
 

@@ -1,13 +1,11 @@
 //! What a curve says at an LMP.
 
-use super::file::{Point, Row, PRD};
+use super::file::{Offer, Offered, Point, Row, MARKET, PLS, PRD};
 use super::Whole;
 
-/// The kW a row was scheduled for at its LMP.
+/// The kW a row was scheduled for at its LMP by the points of one schedule.
 pub fn scheduled(row: &Row, points: &[Point]) -> Whole {
-    let Some(final_point) = points.last() else {
-        return row.committed;
-    };
+    let final_point = points.last().expect("a schedule has points");
     let reached = points_reached(points, row.lmp);
     if reached == 0 {
         return minimum_online(row);
@@ -42,8 +40,33 @@ fn between(low: &Point, high: &Point, lmp: Whole) -> Whole {
     low.kw + (high.kw - low.kw) * (lmp - low.price) / (high.price - low.price)
 }
 
-/// A PRD row counts only if the LMP reaches a point with kW.
-pub fn considered(row: &Row, points: &[Point]) -> bool {
-    let reached = points_reached(points, row.lmp);
-    row.kind != PRD || (reached > 0 && points[reached - 1].kw > 0)
+/// The highest kW by any schedule that the one dispatched on is compared with; the committed kW without schedules.
+pub fn highest_scheduled(row: &Row, offer: &Offer) -> Whole {
+    let compared = offer
+        .dispatched()
+        .map_or(Vec::new(), |own| compared(offer, own));
+    let kilowatts = compared
+        .iter()
+        .map(|schedule| scheduled(row, schedule.points));
+    kilowatts.max().unwrap_or(row.committed)
+}
+
+/// The schedules that count for a row dispatched on this one of them: for a market one all, for a PLS one all but the
+/// market ones, for a cost one none but itself.
+fn compared<'a>(offer: &'a Offer, own: &'a Offered) -> Vec<&'a Offered<'a>> {
+    let all = offer.schedules.iter();
+    match own.kind {
+        MARKET => all.collect(),
+        PLS => all.filter(|schedule| schedule.kind != MARKET).collect(),
+        _ => vec![own],
+    }
+}
+
+/// A PRD row counts only if the LMP reaches a point with kW on the schedule that it was dispatched on.
+pub fn considered(row: &Row, offer: &Offer) -> bool {
+    let curve = offer
+        .dispatched()
+        .map_or(&[][..], |schedule| schedule.points);
+    let reached = points_reached(curve, row.lmp);
+    row.kind != PRD || (reached > 0 && curve[reached - 1].kw > 0)
 }

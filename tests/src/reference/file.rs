@@ -1,21 +1,42 @@
-//! The interval file: its words, and the grounds that it alone decides (7, 9, 11, 13 and 14).
+//! The interval file in both formats: its words, and the grounds that it alone decides (7, 9, 11, 13, 18 and 14).
+//!
+//! A file of format 1 is read as if each row with points named one market schedule, on which it was dispatched.
 
 use super::terms::{intervals, Terms};
 use super::words::{lies_within, signed, unsigned};
 use super::Whole;
 
-const FORMAT: Whole = 1;
 pub const ROWS_MOST: Whole = 512;
 const POINTS_MOST: Whole = 2048;
-const ROW_POINTS_MOST: Whole = 10;
+const SCHEDULES_MOST: Whole = 1024;
+const ROW_SCHEDULES_MOST: Whole = 4;
+const SCHEDULE_POINTS_MOST: Whole = 10;
 pub const KW_MOST: Whole = 4_000_000;
 const IMPORTS_MOST: Whole = 40_000_000;
 const PRICE_MOST: Whole = 1_000_000;
 
-const FILE_LEAST: usize = 40;
-pub const FILE_MOST: usize = 49_152;
-const ROW_BYTES: Whole = 56;
+/// Sizes in bytes: of the header, of a row, and of the longest file.
+struct Format {
+    header: usize,
+    row: Whole,
+    most: usize,
+}
+
+const FORMAT_1: Format = Format {
+    header: 40,
+    row: 56,
+    most: 49_152,
+};
+const FORMAT_2: Format = Format {
+    header: 48,
+    row: 60,
+    most: FILE_MOST,
+};
+
+/// The longest file of either format.
+pub const FILE_MOST: usize = 61_440;
 const POINT_BYTES: Whole = 8;
+const SCHEDULE_BYTES: Whole = 12;
 
 pub const GENERATION: Whole = 0;
 pub const DEMAND: Whole = 1;
@@ -24,15 +45,35 @@ pub const PRD: Whole = 3;
 pub const ENERGY_ONLY: Whole = 4;
 pub const IMPORTER: Whole = 5;
 
+/// The kinds of a schedule: on a market-based offer, on a price-based one with parameter limits, on a cost-based one.
+pub const MARKET: Whole = 1;
+pub const PLS: Whole = 2;
+pub const COST: Whole = 3;
+
 pub struct Head {
+    format: &'static Format,
     pub terms: Terms,
     pub interval: Whole,
     pub region_wide: Whole,
     pub imports: Whole,
-    pub rows: Whole,
-    pub rows_at: Whole,
-    pub points: Whole,
-    pub points_at: Whole,
+    pub rows: Table,
+    points: Table,
+    /// Of format 2 alone.
+    schedules: Option<Table>,
+}
+
+/// A table by the words that place it, with the bytes of an entry.
+pub struct Table {
+    pub count: Whole,
+    at: Whole,
+    entry: Whole,
+}
+
+/// Entries of a table that follow each other: the first and how many.
+#[derive(Clone, Copy)]
+struct Stretch {
+    first: Whole,
+    count: Whole,
 }
 
 pub struct Row {
@@ -48,8 +89,14 @@ pub struct Row {
     pub minimum: Whole,
     pub online: Whole,
     pub lmp: Whole,
-    pub first: Whole,
-    pub count: Whole,
+    schedules: Stretch,
+    /// Counted from 0 within the row's own.
+    dispatched: Whole,
+}
+
+struct Schedule {
+    kind: Whole,
+    points: Stretch,
 }
 
 pub struct Point {
@@ -57,14 +104,59 @@ pub struct Point {
     pub kw: Whole,
 }
 
-/// The file has a possible length and the right format.
-pub fn file_holds(file: &[u8]) -> bool {
-    (FILE_LEAST..=FILE_MOST).contains(&file.len()) && unsigned(file, 0, 0) == FORMAT
+/// The tables of a file.
+pub struct Tables {
+    pub rows: Vec<Row>,
+    schedules: Vec<Schedule>,
+    points: Vec<Point>,
 }
 
-/// The ten words of the header.
+/// A schedule that a row names: its kind and its points.
+pub struct Offered<'a> {
+    pub kind: Whole,
+    pub points: &'a [Point],
+}
+
+/// The schedules that a row names, and the one of them on which it was dispatched; a row that names none has none.
+pub struct Offer<'a> {
+    pub schedules: Vec<Offered<'a>>,
+    dispatched: usize,
+}
+
+impl<'a> Offer<'a> {
+    /// The schedule on which the row was dispatched.
+    pub fn dispatched(&self) -> Option<&Offered<'a>> {
+        self.schedules.get(self.dispatched)
+    }
+}
+
+/// The format that word 0 names, if there is a header.
+fn format_of(file: &[u8]) -> Option<&'static Format> {
+    if file.len() < FORMAT_1.header {
+        return None;
+    }
+    match unsigned(file, 0, 0) {
+        1 => Some(&FORMAT_1),
+        2 => Some(&FORMAT_2),
+        _ => None,
+    }
+}
+
+/// The file has a format and a length that is possible in it.
+pub fn file_holds(file: &[u8]) -> bool {
+    format_of(file).is_some_and(|format| (format.header..=format.most).contains(&file.len()))
+}
+
+/// The words of the header, of a file that passed ground 7.
 pub fn read_head(file: &[u8]) -> Head {
+    let format = format_of(file).expect("the file has a format");
+    let table = |word, entry| Table {
+        count: unsigned(file, 0, word),
+        at: unsigned(file, 0, word + 1),
+        entry,
+    };
     Head {
+        format,
         interval: unsigned(file, 0, 1),
         terms: Terms {
             net_cone: unsigned(file, 0, 2),
@@ -72,23 +164,41 @@ pub fn read_head(file: &[u8]) -> Head {
         },
         region_wide: unsigned(file, 0, 4),
         imports: signed(file, 0, 5),
-        rows: unsigned(file, 0, 6),
-        rows_at: unsigned(file, 0, 7),
-        points: unsigned(file, 0, 8),
-        points_at: unsigned(file, 0, 9),
+        rows: table(6, format.row),
+        points: table(8, POINT_BYTES),
+        schedules: (format.header > FORMAT_1.header).then(|| table(10, SCHEDULE_BYTES)),
     }
 }
 
-/// All rows of the file.
-pub fn read_rows(file: &[u8], head: &Head) -> Vec<Row> {
-    (0..head.rows as usize)
-        .map(|index| read_row(file, head, index))
-        .collect()
+impl Table {
+    /// The bytes that it takes.
+    fn size(&self) -> Whole {
+        self.entry * self.count
+    }
+
+    /// What `read` makes of each entry, given where it begins.
+    fn entries<T>(&self, read: impl Fn(usize) -> T) -> Vec<T> {
+        let at = |index| (self.at + self.entry * index) as usize;
+        (0..self.count).map(|index| read(at(index))).collect()
+    }
 }
 
-/// The fourteen words of one row.
-pub fn read_row(file: &[u8], head: &Head, index: usize) -> Row {
-    let at = head.rows_at as usize + ROW_BYTES as usize * index;
+/// All tables of a file that passed ground 11, used or not.
+pub fn read_tables(file: &[u8], head: &Head) -> Tables {
+    let mut rows = head.rows.entries(|at| read_row(file, head, at));
+    let schedules = match &head.schedules {
+        Some(table) => table.entries(|at| read_schedule(file, at)),
+        None => market_schedules(&mut rows),
+    };
+    Tables {
+        rows,
+        schedules,
+        points: head.points.entries(|at| read_point(file, at)),
+    }
+}
+
+/// The words of a row, whichever table words 12 and 13 speak of.
+fn read_row(file: &[u8], head: &Head, at: usize) -> Row {
     Row {
         id: unsigned(file, at, 0),
         kind: unsigned(file, at, 1),
@@ -102,33 +212,75 @@ pub fn read_row(file: &[u8], head: &Head, index: usize) -> Row {
         minimum: unsigned(file, at, 9),
         online: unsigned(file, at, 10),
         lmp: signed(file, at, 11),
-        first: unsigned(file, at, 12),
-        count: unsigned(file, at, 13),
+        schedules: Stretch {
+            first: unsigned(file, at, 12),
+            count: unsigned(file, at, 13),
+        },
+        dispatched: match head.schedules {
+            Some(_) => unsigned(file, at, 14),
+            None => 0,
+        },
     }
 }
 
-/// All points of the file, used or not.
-pub fn read_table(file: &[u8], head: &Head) -> Vec<Point> {
-    (0..head.points as usize)
-        .map(|index| read_point(file, head, index))
-        .collect()
+/// A market schedule for each row of format 1 that has points, which the row then names.
+fn market_schedules(rows: &mut [Row]) -> Vec<Schedule> {
+    let mut schedules = Vec::new();
+    for row in rows.iter_mut().filter(|row| row.schedules.count > 0) {
+        let first = schedules.len() as Whole;
+        schedules.push(Schedule {
+            kind: MARKET,
+            points: row.schedules,
+        });
+        row.schedules = Stretch { first, count: 1 };
+    }
+    schedules
 }
 
-/// The two words of one point.
-fn read_point(file: &[u8], head: &Head, index: usize) -> Point {
-    let at = head.points_at as usize + POINT_BYTES as usize * index;
+/// The three words of a schedule.
+fn read_schedule(file: &[u8], at: usize) -> Schedule {
+    Schedule {
+        kind: unsigned(file, at, 0),
+        points: Stretch {
+            first: unsigned(file, at, 1),
+            count: unsigned(file, at, 2),
+        },
+    }
+}
+
+/// The two words of a point.
+fn read_point(file: &[u8], at: usize) -> Point {
     Point {
         price: signed(file, at, 0),
         kw: unsigned(file, at, 1),
     }
 }
 
-/// The points of a row; word 12 says nothing when there are none.
-pub fn points_of<'a>(row: &Row, table: &'a [Point]) -> &'a [Point] {
-    if row.count == 0 {
-        return &[];
+/// The ids of the rows of a file that passed ground 11.
+pub fn read_row_ids(file: &[u8], head: &Head) -> Vec<Whole> {
+    head.rows.entries(|at| unsigned(file, at, 0))
+}
+
+/// The entries of a stretch, if they are all in the table; the first is free where there are none.
+fn entries<T>(table: &[T], stretch: Stretch) -> Option<&[T]> {
+    match stretch.count {
+        0 => Some(&[]),
+        _ if stretch.first + stretch.count > table.len() as Whole => None,
+        _ => Some(&table[stretch.first as usize..(stretch.first + stretch.count) as usize]),
     }
-    &table[row.first as usize..(row.first + row.count) as usize]
+}
+
+/// What a row that passed grounds 18 and 14 offers.
+pub fn offer<'a>(tables: &'a Tables, row: &Row) -> Offer<'a> {
+    let schedules = entries(&tables.schedules, row.schedules).expect("ground 18");
+    let offered = |schedule: &Schedule| Offered {
+        kind: schedule.kind,
+        points: entries(&tables.points, schedule.points).expect("ground 14"),
+    };
+    Offer {
+        schedules: schedules.iter().map(offered).collect(),
+        dispatched: row.dispatched as usize,
+    }
 }
 
 /// The interval is one of the year, region-wide is a yes or no, imports are in range.
@@ -138,23 +290,33 @@ pub fn event_holds(head: &Head) -> bool {
         && (-IMPORTS_MOST..=IMPORTS_MOST).contains(&head.imports)
 }
 
-/// Both tables are of a possible size, behind the header, and apart.
+/// All tables are of a possible size, behind the header, and apart.
 pub fn tables_hold(head: &Head, length: usize) -> bool {
-    let rows = ROW_BYTES * head.rows;
-    let points = POINT_BYTES * head.points;
-    (1..=ROWS_MOST).contains(&head.rows)
-        && head.points <= POINTS_MOST
-        && lies_within(head.rows_at, rows, FILE_LEAST, length)
-        && lies_within(head.points_at, points, FILE_LEAST, length)
-        && !share_a_byte(head.rows_at, rows, head.points_at, points)
+    let tables: Vec<&Table> = [&head.rows, &head.points]
+        .into_iter()
+        .chain(&head.schedules)
+        .collect();
+    let schedules = head.schedules.as_ref().map_or(0, |table| table.count);
+    let apart = |first: usize| {
+        tables[..first]
+            .iter()
+            .all(|other| !share_a_byte(tables[first], other))
+    };
+    (1..=ROWS_MOST).contains(&head.rows.count)
+        && head.points.count <= POINTS_MOST
+        && schedules <= SCHEDULES_MOST
+        && tables
+            .iter()
+            .all(|table| lies_within(table.at, table.size(), head.format.header, length))
+        && (0..tables.len()).all(apart)
 }
 
-/// Two stretches have a byte in common; an empty one has none.
-fn share_a_byte(a: Whole, a_size: Whole, b: Whole, b_size: Whole) -> bool {
-    a.max(b) < (a + a_size).min(b + b_size)
+/// Two tables have a byte in common; an empty one has none.
+fn share_a_byte(a: &Table, b: &Table) -> bool {
+    a.at.max(b.at) < (a.at + a.size()).min(b.at + b.size())
 }
 
-/// Every word of a row other than its id and points is in range.
+/// Every word of a row other than its id and those of its schedules is in range.
 pub fn row_holds(row: &Row) -> bool {
     let kilowatts = [
         row.committed,
@@ -184,11 +346,22 @@ fn price_holds(price: Whole) -> bool {
     (-PRICE_MOST..=PRICE_MOST).contains(&price)
 }
 
-/// A row has at most ten points, all in the table, and they form a curve.
-pub fn row_points_hold(row: &Row, table: &[Point]) -> bool {
-    row.count <= ROW_POINTS_MOST
-        && (row.count == 0 || row.first + row.count <= table.len() as Whole)
-        && curve_holds(points_of(row, table))
+/// A row names at most four schedules, all in the table and of a kind that there is, and was dispatched on one of them;
+/// one that names none says 0.
+pub fn row_schedules_hold(row: &Row, tables: &Tables) -> bool {
+    let is_kind = |schedule: &Schedule| (MARKET..=COST).contains(&schedule.kind);
+    row.schedules.count <= ROW_SCHEDULES_MOST
+        && entries(&tables.schedules, row.schedules).is_some_and(|named| named.iter().all(is_kind))
+        && row.dispatched < row.schedules.count.max(1)
+}
+
+/// The points of every schedule that a row names are one to ten, all in the table, and form a curve.
+pub fn row_points_hold(row: &Row, tables: &Tables) -> bool {
+    let named = entries(&tables.schedules, row.schedules).expect("ground 18");
+    named.iter().all(|schedule| {
+        (1..=SCHEDULE_POINTS_MOST).contains(&schedule.points.count)
+            && entries(&tables.points, schedule.points).is_some_and(curve_holds)
+    })
 }
 
 /// Prices and kW are in range and neither falls from point to point.

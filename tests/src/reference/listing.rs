@@ -1,7 +1,7 @@
 //! What `npalist` prints.
 
 use super::block::BLOCK_MOST;
-use super::file::{read_head, read_row, FILE_MOST, ROWS_MOST};
+use super::file::{read_head, read_row_ids, FILE_MOST, ROWS_MOST};
 use super::ledger::ledger_bytes;
 use super::opening::open;
 use super::settling::{result_bytes, settle};
@@ -143,14 +143,15 @@ impl Listing {
     /// The row lines of the file that was accepted last, each as interval, id and the row's eight words.
     pub(super) fn row_lines(&self, file: &[u8]) -> Vec<[Whole; 10]> {
         let head = read_head(file);
-        let line = |index| {
+        let line = |(index, id)| {
             let words = |word| long(&self.result, 8 + 8 * index + word);
             let mut line = [head.interval; 10];
-            line[1] = read_row(file, &head, index).id;
+            line[1] = id;
             line[2..].copy_from_slice(&[0, 1, 2, 3, 4, 5, 6, 7].map(words));
             line
         };
-        (0..head.rows as usize).map(line).collect()
+        let ids = read_row_ids(file, &head);
+        ids.into_iter().enumerate().map(line).collect()
     }
 
     /// Prints the lines of the file that was accepted last: its rows, then its pool.

@@ -1,8 +1,10 @@
-//! Settling: grounds 6 to 16 in checking order, charges, credits, and what an accepted file leaves.
+//! Settling: grounds 6 to 16 and 18 in checking order, charges, credits, and what an accepted file leaves.
 
 use super::assessment::{assess, total_bonus, Assessment};
-use super::file::{event_holds, file_holds, row_holds, row_points_hold, tables_hold};
-use super::file::{read_head, read_rows, read_table, Row};
+use super::file::{
+    event_holds, file_holds, row_holds, row_points_hold, row_schedules_hold, tables_hold,
+};
+use super::file::{read_head, read_tables, Row};
 use super::ledger::{find_account, read_ledger, write_ledger, Account, Ledger, POOL_MOST};
 use super::money::{charge, credit, limit};
 use super::words::{put_longs, rise_strictly};
@@ -49,7 +51,7 @@ pub fn pool(ledger: &[u8], file: &[u8]) -> Checked<Whole> {
     charged(ledger, file, usize::MAX).map(|charged| charged.pool())
 }
 
-/// Grounds 6 to 15, in order, and the charges.
+/// Grounds 6 to 13, 18, 14 and 15, in order, and the charges.
 fn charged(ledger: &[u8], file: &[u8], room: usize) -> Checked<Charged> {
     let mut ledger = read_ledger(ledger)?;
     refuse_if(!file_holds(file), 7)?;
@@ -58,24 +60,25 @@ fn charged(ledger: &[u8], file: &[u8], room: usize) -> Checked<Charged> {
     refuse_if(!event_holds(&head), 9)?;
     refuse_if(head.interval < ledger.earliest, 10)?;
     refuse_if(!tables_hold(&head, file.len()), 11)?;
-    let rows = read_rows(file, &head);
-    let table = read_table(file, &head);
-    refuse_if(!row_ids_hold(&rows, &ledger), 12)?;
+    let tables = read_tables(file, &head);
+    let rows = &tables.rows;
+    refuse_if(!row_ids_hold(rows, &ledger), 12)?;
     refuse_if(!rows.iter().all(row_holds), 13)?;
-    refuse_if(!rows.iter().all(|row| row_points_hold(row, &table)), 14)?;
-    refuse_if((room as Whole) < result_bytes(head.rows), 15)?;
-    let assessment = assess(&head, &rows, &table);
-    let charges = charge_rows(&mut ledger, &rows, &assessment);
+    refuse_if(!rows.iter().all(|row| row_schedules_hold(row, &tables)), 18)?;
+    refuse_if(!rows.iter().all(|row| row_points_hold(row, &tables)), 14)?;
+    refuse_if((room as Whole) < result_bytes(head.rows.count), 15)?;
+    let assessment = assess(&head, &tables);
+    let charges = charge_rows(&mut ledger, rows, &assessment);
     Ok(Charged {
         interval: head.interval,
-        rows,
+        rows: tables.rows,
         ledger,
         assessment,
         charges,
     })
 }
 
-/// Grounds 6 to 16, in order, and the figures.
+/// All grounds in order, and the figures.
 fn work_out(ledger: &[u8], file: &[u8], room: usize) -> Checked<Settlement> {
     let charged = charged(ledger, file, room)?;
     let pool = charged.pool();

@@ -1,10 +1,11 @@
 //! Every fault of an opening block or an interval file, in checking order.
 
-use crate::names::{Sign, KINDS, ROW_WORDS, UNCOMMITTED};
+use crate::names::{Sign, KINDS, ROW_WORDS, SCHEDULE_KINDS, UNCOMMITTED};
 use npa_tests::layout::{
-    word_at, BLOCK_MOST, DAY_INTERVALS, FILE_MOST, HALVED_YEAR, HEADER_BYTES, IDS_MOST,
-    IMPORTS_MOST, KW_MOST, NET_CONE_MOST, OPENING_BYTES, PLAIN_FORMAT, POINTS_MOST, POINT_BYTES,
-    PRICE_MOST, ROWS_MOST, ROW_BYTES, ROW_POINTS_MOST, YEARS, YEAR_FORMAT, YEAR_OPENING_BYTES,
+    word_at, Format, RowWords, BLOCK_MOST, CURVE_POINTS_MOST, DAY_INTERVALS, HALVED_YEAR, IDS_MOST,
+    IMPORTS_MOST, KW_MOST, NET_CONE_MOST, OPENING_BYTES, POINTS_MOST, POINT_BYTES, PRICE_MOST,
+    ROWS_MOST, ROW_SCHEDULES_MOST, SCHEDULES_MOST, SCHEDULE_BYTES, YEARS, YEAR_FORMAT,
+    YEAR_OPENING_BYTES,
 };
 
 /// A fault: its ground, where in the block it is, and what it is.
@@ -41,8 +42,8 @@ impl Faults {
     }
 
     /// A number that is not from `low` to `high`.
-    fn range(&mut self, ground: u32, place: &str, named: Named, low: i64, high: i64) {
-        let Named(name, value) = named;
+    fn range(&mut self, ground: u32, place: &str, word: Word, low: i64, high: i64) {
+        let Word(name, value) = word;
         if value < low {
             self.add(ground, place, format!("{name} {value} below {low}"));
         } else if value > high {
@@ -50,34 +51,34 @@ impl Faults {
         }
     }
 
-    /// The length and the format of a block, which is to be one of these.
-    fn whole(&mut self, ground: u32, block: &[u8], formats: &[u32], least: usize, most: usize) {
+    /// The length and the format of a block, which has one of the bounds.
+    fn whole(&mut self, ground: u32, block: &[u8], least: usize, most: usize) {
         let length = block.len();
         if length < least {
             self.add(ground, "", format!("{length} bytes, under {least}"));
         } else if length > most {
             self.add(ground, "", format!("{length} bytes, over {most}"));
         }
-        let not = match formats {
-            [only] => format!("not {only}"),
-            _ => "neither 1 nor 2".to_string(),
+        let Some(format) = word_at(block, 0).filter(|format| ![1, 2].contains(format)) else {
+            return;
         };
-        match word_at(block, 0).filter(|format| !formats.contains(format)) {
-            None => (),
-            Some(format) if length < least => {
-                self.add(ground, "", format!("format {format}, {not}"));
-            }
-            Some(format) => {
-                let what = format!("format {format}, {not} (the rest is read as format 1)");
-                self.add(ground, "", what);
-            }
-        }
+        let read = if length < least {
+            ""
+        } else {
+            " (the rest is read as format 1)"
+        };
+        self.add(
+            ground,
+            "",
+            format!("format {format}, neither 1 nor 2{read}"),
+        );
     }
 
     /// In checking order; faults of one ground stay in the order of the rows.
     fn in_order(mut self) -> Vec<Found> {
         self.0.sort_by_key(|found| match found.ground {
-            23 => (2, 1), // between 2 and 3
+            23 => (2, 1),  // between 2 and 3
+            18 => (13, 1), // between 13 and 14
             ground => (ground, 0),
         });
         self.0
@@ -85,7 +86,7 @@ impl Faults {
 }
 
 /// A word's name and its value.
-struct Named<'a>(&'a str, i64);
+struct Word<'a>(&'a str, i64);
 
 /// A table by the words that place it.
 struct Table {
@@ -174,13 +175,13 @@ pub fn opening_faults(block: &[u8]) -> Vec<Found> {
     } else {
         OPENING_BYTES
     };
-    faults.whole(1, block, &[PLAIN_FORMAT, YEAR_FORMAT], front, BLOCK_MOST);
+    faults.whole(1, block, front, BLOCK_MOST);
     if block.len() < front {
         return faults.in_order();
     }
     let word = |index: usize| word_at(block, 4 * index).unwrap_or(0);
     let (net_cone, days, count) = (word(1), word(2), word(3));
-    let named = Named("net_cone", net_cone.into());
+    let named = Word("net_cone", net_cone.into());
     faults.range(2, "", named, 1, NET_CONE_MOST.into());
     if days != 365 && days != 366 {
         faults.add(2, "", format!("days {days}, neither 365 nor 366"));
@@ -188,7 +189,7 @@ pub fn opening_faults(block: &[u8]) -> Vec<Found> {
     if let Some(what) = year_fault(word(5).into(), days.into()).filter(|_| has_year) {
         faults.add(23, "", what);
     }
-    faults.range(3, "", Named("count", count.into()), 1, IDS_MOST as i64);
+    faults.range(3, "", Word("count", count.into()), 1, IDS_MOST as i64);
     let table = Table {
         name: "ids",
         at_name: "ids_at",
@@ -221,46 +222,77 @@ fn roster_faults(ids: &[[u32; 1]], faults: &mut Faults) {
     }
 }
 
+/// The tables of an interval file; format 1 has no schedules.
+struct Tables {
+    rows: Table,
+    points: Table,
+    schedules: Option<Table>,
+}
+
+impl Tables {
+    fn read(file: &[u8]) -> Self {
+        let format = Format::of(file);
+        let table = |number: usize, name, at_name, entry: usize| {
+            let [count, at] =
+                [24, 28].map(|at| u64::from(word_at(file, at + 8 * number).unwrap_or(0)));
+            Table {
+                name,
+                at_name,
+                count,
+                at,
+                entry: entry as u64,
+            }
+        };
+        let schedules = || table(2, "schedules", "schedules_at", SCHEDULE_BYTES);
+        Tables {
+            rows: table(0, "rows", "rows_at", format.row_bytes()),
+            points: table(1, "points", "points_at", POINT_BYTES),
+            schedules: (format == Format::Two).then(schedules),
+        }
+    }
+}
+
 /// Every fault of an interval file but 16. Without what the stream so far says, those that the file alone shows.
 pub fn file_faults(file: &[u8], known: Option<&Known>) -> Vec<Found> {
     let mut faults = Faults::default();
-    faults.whole(7, file, &[PLAIN_FORMAT], HEADER_BYTES, FILE_MOST);
-    if file.len() < HEADER_BYTES {
+    let format = Format::of(file);
+    let header = format.header_bytes();
+    faults.whole(7, file, header, format.most());
+    if file.len() < header {
         return faults.in_order();
     }
-    let head: [u32; 10] = std::array::from_fn(|index| word_at(file, 4 * index).unwrap_or(0));
-    header_faults(&head, known, &mut faults);
-    let [_, _, _, _, _, _, rows, rows_at, points, points_at] = head.map(u64::from);
-    let rows = Table {
-        name: "rows",
-        at_name: "rows_at",
-        count: rows,
-        at: rows_at,
-        entry: ROW_BYTES as u64,
-    };
-    let points = Table {
-        name: "points",
-        at_name: "points_at",
-        count: points,
-        at: points_at,
-        entry: POINT_BYTES as u64,
-    };
-    table_faults(&rows, &points, file.len(), &mut faults);
-    let table: Option<Vec<[u32; 2]>> = points.entries(file, HEADER_BYTES);
-    let rows: Vec<[u32; 14]> = rows.entries(file, HEADER_BYTES).unwrap_or_default();
+    header_faults(file, known, &mut faults);
+    let tables = Tables::read(file);
+    table_faults(&tables, header, file.len(), &mut faults);
+    let points = tables.points.entries(file, header);
+    let points = Named::new(&tables.points, points.as_deref());
+    let schedules = tables
+        .schedules
+        .as_ref()
+        .map(|table| (table, table.entries(file, header)));
+    let schedules = schedules
+        .as_ref()
+        .map(|(table, entries)| Named::new(table, entries.as_deref()));
+    // Words behind a row of format 1 are not looked at.
+    let rows: Vec<RowWords> = tables.rows.entries(file, header).unwrap_or_default();
     for (index, row) in rows.iter().enumerate() {
         let place = format!("row {} (id {})", index + 1, row[0]);
         let before = index.checked_sub(1).map(|before| rows[before][0]);
         id_faults(row[0], (index, before), known, &place, &mut faults);
         row_faults(row, &place, &mut faults);
-        curve_faults(row, points.count, table.as_deref(), &place, &mut faults);
+        match &schedules {
+            Some(schedules) => schedule_faults(row, schedules, &points, &place, &mut faults),
+            None if row[13] > 0 => curve_faults([row[12], row[13]], &points, &place, &mut faults),
+            None => (),
+        }
     }
     faults.in_order()
 }
 
 /// Grounds 8, 9 and 10.
-fn header_faults(head: &[u32; 10], known: Option<&Known>, faults: &mut Faults) {
-    let [_, interval, net_cone, days, region_wide, imports, ..] = *head;
+fn header_faults(file: &[u8], known: Option<&Known>, faults: &mut Faults) {
+    let [interval, net_cone, days, region_wide, imports] =
+        [1, 2, 3, 4, 5].map(|word| word_at(file, 4 * word).unwrap_or(0));
     if let Some(known) = known {
         for (name, value, opened) in [
             ("net_cone", net_cone, known.net_cone),
@@ -281,10 +313,10 @@ fn header_faults(head: &[u32; 10], known: Option<&Known>, faults: &mut Faults) {
         );
         faults.add(9, "", what);
     }
-    faults.range(9, "", Named("region_wide", region_wide.into()), 0, 1);
+    faults.range(9, "", Word("region_wide", region_wide.into()), 0, 1);
     let most = i64::from(IMPORTS_MOST);
     let imports = i64::from(imports as i32);
-    faults.range(9, "", Named("imports", imports), -most, most);
+    faults.range(9, "", Word("imports", imports), -most, most);
 }
 
 /// Ground 10 in words.
@@ -298,16 +330,30 @@ fn too_early(interval: u32, known: &Known) -> String {
 }
 
 /// Ground 11.
-fn table_faults(rows: &Table, points: &Table, length: usize, faults: &mut Faults) {
-    let count = |table: &Table| table.count as i64;
-    faults.range(11, "", Named("rows", count(rows)), 1, ROWS_MOST as i64);
-    let most = POINTS_MOST as i64;
-    faults.range(11, "", Named("points", count(points)), 0, most);
-    rows.misplaced(HEADER_BYTES, length, faults, 11);
-    points.misplaced(HEADER_BYTES, length, faults, 11);
-    if let Some((first, last)) = rows.shared(points) {
-        let what = format!("rows and points share bytes {first} to {last}");
-        faults.add(11, "", what);
+fn table_faults(tables: &Tables, header: usize, length: usize, faults: &mut Faults) {
+    let Tables {
+        rows,
+        points,
+        schedules,
+    } = tables;
+    let all: Vec<&Table> = [rows, points].into_iter().chain(schedules).collect();
+    let bounds = [(1, ROWS_MOST), (0, POINTS_MOST), (0, SCHEDULES_MOST)];
+    for (table, (least, most)) in all.iter().zip(bounds) {
+        let count = Word(table.name, table.count as i64);
+        faults.range(11, "", count, least, most as i64);
+    }
+    all.iter()
+        .for_each(|table| table.misplaced(header, length, faults, 11));
+    for (index, table) in all.iter().enumerate() {
+        for other in &all[index + 1..] {
+            if let Some((first, last)) = table.shared(other) {
+                let what = format!(
+                    "{} and {} share bytes {first} to {last}",
+                    table.name, other.name
+                );
+                faults.add(11, "", what);
+            }
+        }
     }
 }
 
@@ -329,9 +375,9 @@ fn id_faults(
 }
 
 /// Ground 13.
-fn row_faults(row: &[u32; 14], place: &str, faults: &mut Faults) {
+fn row_faults(row: &RowWords, place: &str, faults: &mut Faults) {
     let kind = i64::from(row[1]);
-    faults.range(13, place, Named("kind", kind), 0, KINDS.len() as i64 - 1);
+    faults.range(13, place, Word("kind", kind), 0, KINDS.len() as i64 - 1);
     for (index, name, sign) in ROW_WORDS {
         let value = match sign {
             Sign::Signed => i64::from(row[index] as i32),
@@ -346,7 +392,7 @@ fn row_faults(row: &[u32; 14], place: &str, faults: &mut Faults) {
             Sign::Signed => -most,
             Sign::Unsigned => 0,
         };
-        faults.range(13, place, Named(name, value), least, most);
+        faults.range(13, place, Word(name, value), least, most);
     }
     let (committed, maximum, minimum) = (row[2], row[8], row[9]);
     if minimum > maximum {
@@ -360,37 +406,94 @@ fn row_faults(row: &[u32; 14], place: &str, faults: &mut Faults) {
     }
 }
 
-/// Ground 14; a table that is not in the file has a number of points, but none to look at.
-fn curve_faults(
-    row: &[u32; 14],
+/// A table of which rows or schedules name entries: the number that it has, and its entries if it is in the file.
+struct Named<'a, T> {
+    name: &'static str,
     count: u64,
-    table: Option<&[[u32; 2]]>,
+    entries: Option<&'a [T]>,
+}
+
+impl<'a, T> Named<'a, T> {
+    fn new(table: &Table, entries: Option<&'a [T]>) -> Self {
+        Named {
+            name: table.name,
+            count: table.count,
+            entries,
+        }
+    }
+
+    /// So many entries from a first one, as far as there are any to look at; beyond the table is a fault.
+    fn stretch(
+        &self,
+        [first, own]: [u32; 2],
+        ground: u32,
+        place: &str,
+        faults: &mut Faults,
+    ) -> &'a [T] {
+        let (name, count) = (self.name, self.count);
+        let end = u64::from(first) + u64::from(own);
+        if end > count {
+            let what = format!(
+                "{own} {name} from first {first} end at {end}, beyond the {count} of the table"
+            );
+            faults.add(ground, place, what);
+            return &[];
+        }
+        self.entries
+            .map_or(&[], |entries| &entries[first as usize..end as usize])
+    }
+}
+
+/// Ground 18, and ground 14 for the schedules that a row names.
+fn schedule_faults(
+    row: &RowWords,
+    schedules: &Named<[u32; 3]>,
+    points: &Named<[u32; 2]>,
     place: &str,
     faults: &mut Faults,
 ) {
-    let (first, own) = (u64::from(row[12]), u64::from(row[13]));
+    let [first, own, dispatched] = [12, 13, 14].map(|word| row[word]);
+    faults.range(
+        18,
+        place,
+        Word("schedules", own.into()),
+        0,
+        ROW_SCHEDULES_MOST as i64,
+    );
+    if own == 0 && dispatched > 0 {
+        let what = format!("dispatched {dispatched} above 0, without schedules");
+        faults.add(18, place, what);
+    } else if own > 0 && dispatched >= own {
+        let what = format!("dispatched {dispatched} not below schedules {own}");
+        faults.add(18, place, what);
+    }
     if own == 0 {
         return;
     }
-    let most = ROW_POINTS_MOST as i64;
-    faults.range(14, place, Named("points", own as i64), 0, most);
-    if first + own > count {
-        let what = format!(
-            "{own} points from first {first} end at {}, beyond the {count} of the table",
-            first + own
-        );
-        faults.add(14, place, what);
+    let named = schedules.stretch([first, own], 18, place, faults);
+    for (index, [kind, first, count]) in named.iter().enumerate() {
+        let place = format!("{place}, schedule {}", index + 1);
+        let most = SCHEDULE_KINDS.len() as i64;
+        faults.range(18, &place, Word("kind", (*kind).into()), 1, most);
+        curve_faults([*first, *count], points, &place, faults);
+    }
+}
+
+/// Ground 14.
+fn curve_faults(stretch: [u32; 2], points: &Named<[u32; 2]>, place: &str, faults: &mut Faults) {
+    let count = Word("points", stretch[1].into());
+    faults.range(14, place, count, 1, CURVE_POINTS_MOST as i64);
+    if stretch[1] == 0 {
         return;
     }
-    let Some(table) = table else { return };
-    let curve = &table[first as usize..(first + own) as usize];
+    let curve = points.stretch(stretch, 14, place, faults);
     let mut before: Option<(i64, i64)> = None;
     for (index, [price, kw]) in curve.iter().enumerate() {
         let place = format!("{place}, point {}", index + 1);
         let (price, kw) = (i64::from(*price as i32), i64::from(*kw));
         let most = i64::from(PRICE_MOST);
-        faults.range(14, &place, Named("price", price), -most, most);
-        faults.range(14, &place, Named("kw", kw), 0, KW_MOST.into());
+        faults.range(14, &place, Word("price", price), -most, most);
+        faults.range(14, &place, Word("kw", kw), 0, KW_MOST.into());
         if let Some((price_before, kw_before)) = before {
             for (name, value, least) in [("price", price, price_before), ("kw", kw, kw_before)] {
                 if value < least {

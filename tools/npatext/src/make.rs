@@ -1,8 +1,10 @@
 //! From text to a stream.
 
 use crate::line::{Fault, Line};
-use crate::names::{Sign, KINDS, ROW_WORDS};
-use npa_tests::layout::{push_block, IntervalFile, Opening, HEADER_BYTES, POINT_BYTES, ROW_BYTES};
+use crate::names::{Sign, KINDS, ROW_WORDS, SCHEDULE_KINDS};
+use npa_tests::layout::{
+    push_block, Format, IntervalFile, Opening, RowWords, MARKET, POINT_BYTES, SCHEDULE_BYTES,
+};
 
 /// The longest block that a text may describe.
 const LENGTH_MOST: usize = 1 << 20;
@@ -68,11 +70,23 @@ enum Body {
 
 /// An interval, with the counts and offsets that its text gives.
 struct Interval {
-    head: [u32; 10],
-    said: [Option<u32>; 4],
-    rows: Vec<[u32; 14]>,
+    format: Format,
+    head: [u32; 12],
+    said: [Option<u32>; 6],
+    rows: Vec<RowWords>,
     points: Vec<[u32; 2]>,
+    schedules: Vec<[u32; 3]>,
 }
+
+/// The counts and offsets that a text may give; the last two are those of format 2.
+const TABLE_WORDS: [&str; 6] = [
+    "rows",
+    "rows_at",
+    "points",
+    "points_at",
+    "schedules",
+    "schedules_at",
+];
 
 impl Maker {
     /// Reads one line.
@@ -83,6 +97,7 @@ impl Maker {
             "block" => self.begin(&mut line, Body::Bytes)?,
             "row" => row(&mut line, self.block.as_mut())?,
             "points" => points(&mut line, self.block.as_mut())?,
+            "schedules" => schedules(&mut line, self.block.as_mut())?,
             "bytes" => bytes(&mut line, self.block.as_mut())?,
             "length" | "raw" | "cut" => self.bare(&mut line)?,
             keyword => return Err(line.wrong(format!("`{keyword}` begins no line"))),
@@ -136,7 +151,8 @@ impl Maker {
     fn interval(&mut self, line: &mut Line) -> Result<(), Fault> {
         let number = line.word("interval")?;
         let number = line.unsigned("interval", number)?;
-        let format = line.take_unsigned("format")?.unwrap_or(1);
+        let word = line.take_unsigned("format")?.unwrap_or(1);
+        let format = Format::of(&word.to_le_bytes());
         let terms = self.terms;
         let term = |line: &mut Line, index: usize, name: &str| {
             let above = terms.map(|terms| terms[index]);
@@ -147,30 +163,19 @@ impl Maker {
         let days = term(line, 1, "days")?;
         let region_wide = line.take_unsigned("region_wide")?.unwrap_or(0);
         let imports = line.take_signed("imports")?.unwrap_or(0);
-        let mut said = [None; 4];
-        for (said, name) in said
-            .iter_mut()
-            .zip(["rows", "rows_at", "points", "points_at"])
-        {
+        let mut said = [None; 6];
+        for (said, name) in said.iter_mut().zip(&TABLE_WORDS[..2 * format.tables()]) {
             *said = line.take_unsigned(name)?;
         }
-        let head = [
-            format,
-            number,
-            net_cone,
-            days,
-            region_wide,
-            imports,
-            0,
-            0,
-            0,
-            0,
-        ];
+        let mut head = [0; 12];
+        head[..6].copy_from_slice(&[word, number, net_cone, days, region_wide, imports]);
         let interval = Interval {
+            format,
             head,
             said,
             rows: Vec::new(),
             points: Vec::new(),
+            schedules: Vec::new(),
         };
         self.begin(line, Body::Interval(interval))
     }
@@ -234,7 +239,7 @@ impl Block {
             Body::Opening(opening) => {
                 end_of(opening.front(), &[(opening.ids_at, 4 * opening.ids.len())])
             }
-            Body::Interval(interval) => end_of(HEADER_BYTES, &interval.tables()),
+            Body::Interval(interval) => end_of(interval.format.header_bytes(), &interval.tables()),
             Body::Bytes => {
                 let sets = self.set.iter().map(|set| (set.at, set.bytes.len()));
                 end_of(0, &sets.collect::<Vec<_>>())
@@ -262,27 +267,33 @@ fn beyond(line: usize) -> Fault {
 }
 
 impl Interval {
-    /// Offset and size of the rows and of the points.
-    fn tables(&self) -> [(usize, usize); 2] {
-        let rows = ROW_BYTES * self.rows.len();
+    /// Offset and size of rows, points and schedules; format 1 has none of these.
+    fn tables(&self) -> [(usize, usize); 3] {
+        let rows = self.format.row_bytes() * self.rows.len();
         let points = POINT_BYTES * self.points.len();
-        let rows_at = self.said[1].map_or(HEADER_BYTES, |at| at as usize);
-        let points_at = self.said[3].map_or(rows_at + rows, |at| at as usize);
-        [(rows_at, rows), (points_at, points)]
+        let schedules = SCHEDULE_BYTES * self.schedules.len();
+        let at = |table: usize, else_at: usize| {
+            self.said[2 * table + 1].map_or(else_at, |at| at as usize)
+        };
+        let rows_at = at(0, self.format.header_bytes());
+        let points_at = at(1, rows_at + rows);
+        let schedules_at = at(2, points_at + points);
+        [
+            (rows_at, rows),
+            (points_at, points),
+            (schedules_at, schedules),
+        ]
     }
 
     /// The file; counts are those of the lines unless the text gives others.
     fn file(self, length: usize) -> IntervalFile {
-        let [(rows_at, _), (points_at, _)] = self.tables();
-        let mut file = IntervalFile {
-            head: self.head,
-            rows: self.rows,
-            points: self.points,
-            rows_at,
-            points_at,
-            length,
-        };
-        file.place(rows_at, points_at, length);
+        let at = self.tables().map(|(at, _)| at);
+        let mut file = IntervalFile::new(0, 0, 0, self.rows, self.points);
+        if self.format == Format::Two {
+            file = file.with_schedules(self.schedules);
+        }
+        file.head = self.head;
+        file.place_three(at, length);
         for (index, said) in self.said.iter().enumerate() {
             file.head[6 + index] = said.unwrap_or(file.head[6 + index]);
         }
@@ -290,7 +301,7 @@ impl Interval {
     }
 }
 
-/// The interval to which a row or points belong.
+/// The interval to which a row, points or schedules belong.
 fn interval_of<'a>(line: &Line, block: Option<&'a mut Block>) -> Result<&'a mut Interval, Fault> {
     match block.map(|block| &mut block.body) {
         Some(Body::Interval(interval)) => Ok(interval),
@@ -298,15 +309,15 @@ fn interval_of<'a>(line: &Line, block: Option<&'a mut Block>) -> Result<&'a mut 
     }
 }
 
-/// `row ID kind=KIND committed=N .. curve=LIST`, or `first` and `points` instead of `curve`;
-/// for several ids, as many rows that are alike and share their points.
+/// `row ID kind=KIND committed=N ..` with its curve or, in format 2, its schedules; for several ids, as many rows that
+/// are alike and share their points and schedules.
 fn row(line: &mut Line, block: Option<&mut Block>) -> Result<(), Fault> {
     let interval = interval_of(line, block)?;
-    let mut words = [0; 14];
+    let mut words = [0; 15];
     let ids = line.word("id")?;
     let ids = id_list(line, "id", ids)?;
     let kind = line.need("kind")?;
-    words[1] = kind_of(line, kind)?;
+    words[1] = kind_of(line, "kind", kind, &KINDS, 0)?;
     for (index, name, sign) in ROW_WORDS {
         let word = match sign {
             Sign::Signed => line.take_signed(name)?,
@@ -314,21 +325,11 @@ fn row(line: &mut Line, block: Option<&mut Block>) -> Result<(), Fault> {
         };
         words[index] = word.unwrap_or(0);
     }
-    if let Some(curve) = line.take("curve") {
-        let curve = point_list(line, "curve", curve)?;
-        if let Some(field) = ["first", "points"]
-            .into_iter()
-            .find(|field| line.take(field).is_some())
-        {
-            return Err(line.fault(field, "is given beside `curve`, which says it"));
-        }
-        words[12] = interval.points.len() as u32;
-        words[13] = curve.len() as u32;
-        interval.points.extend(curve);
-    } else {
-        words[12] = line.take_unsigned("first")?.unwrap_or(0);
-        words[13] = line.take_unsigned("points")?.unwrap_or(0);
-    }
+    let named = match interval.format {
+        Format::One => curve(line, interval)?,
+        Format::Two => offer(line, interval)?,
+    };
+    words[12..].copy_from_slice(&named);
     for id in ids {
         words[0] = id;
         interval.rows.push(words);
@@ -336,14 +337,58 @@ fn row(line: &mut Line, block: Option<&mut Block>) -> Result<(), Fault> {
     Ok(())
 }
 
-/// A kind by its name or number.
-fn kind_of(line: &Line, text: &str) -> Result<u32, Fault> {
-    let named = KINDS.iter().position(|name| *name == text);
-    let kind = named.map(|kind| kind as u32).or_else(|| text.parse().ok());
+/// `curve=LIST`, or `first` and `points` instead: words 12 and 13, and a 0.
+fn curve(line: &mut Line, interval: &mut Interval) -> Result<[u32; 3], Fault> {
+    let Some(list) = line.take("curve") else {
+        return stretch(line, "points");
+    };
+    let list = point_list(line, "curve", list)?;
+    said_once(line, "curve", ["first", "points"])?;
+    let first = interval.points.len() as u32;
+    interval.points.extend(&list);
+    Ok([first, list.len() as u32, 0])
+}
+
+/// `offer=LIST`, or `first` and `schedules` instead, and `dispatched`: words 12 to 14.
+fn offer(line: &mut Line, interval: &mut Interval) -> Result<[u32; 3], Fault> {
+    let dispatched = line.take_unsigned("dispatched")?.unwrap_or(0);
+    let [first, count, _] = match line.take("offer") {
+        None => stretch(line, "schedules")?,
+        Some(list) => {
+            let first = interval.schedules.len() as u32;
+            add_schedules(line, "offer", list, interval)?;
+            said_once(line, "offer", ["first", "schedules"])?;
+            [first, interval.schedules.len() as u32 - first, 0]
+        }
+    };
+    Ok([first, count, dispatched])
+}
+
+/// `first` and a number of entries.
+fn stretch(line: &mut Line, number: &str) -> Result<[u32; 3], Fault> {
+    let first = line.take_unsigned("first")?.unwrap_or(0);
+    let count = line.take_unsigned(number)?.unwrap_or(0);
+    Ok([first, count, 0])
+}
+
+/// Fields that another says already are not there.
+fn said_once(line: &mut Line, by: &str, fields: [&str; 2]) -> Result<(), Fault> {
+    match fields.into_iter().find(|field| line.take(field).is_some()) {
+        Some(field) => Err(line.fault(field, format!("is given beside `{by}`, which says it"))),
+        None => Ok(()),
+    }
+}
+
+/// A kind by its name, of which the first has this number, or by its number.
+fn kind_of(line: &Line, field: &str, text: &str, names: &[&str], first: u32) -> Result<u32, Fault> {
+    let named = names.iter().position(|name| *name == text);
+    let kind = named
+        .map(|kind| first + kind as u32)
+        .or_else(|| text.parse().ok());
     kind.ok_or_else(|| {
-        let names = KINDS.join(", ");
+        let names = names.join(", ");
         line.fault(
-            "kind",
+            field,
             format!("`{text}` is none of {names}, and no number of 32 bits"),
         )
     })
@@ -354,6 +399,43 @@ fn points(line: &mut Line, block: Option<&mut Block>) -> Result<(), Fault> {
     let interval = interval_of(line, block)?;
     let list = line.word("points")?;
     interval.points.extend(point_list(line, "points", list)?);
+    Ok(())
+}
+
+/// `schedules LIST`: schedules that no row has as its offer.
+fn schedules(line: &mut Line, block: Option<&mut Block>) -> Result<(), Fault> {
+    let interval = interval_of(line, block)?;
+    if interval.format == Format::One {
+        return Err(line.wrong("`schedules` needs an interval of format=2 above it"));
+    }
+    let list = line.word("schedules")?;
+    add_schedules(line, "schedules", list, interval)
+}
+
+/// Adds schedules with semicolons between them, each a kind, `@` and points: prices and kW, which are added too, or the
+/// first and the number of points in the table, as `4+2`.
+fn add_schedules(
+    line: &Line,
+    field: &str,
+    text: &str,
+    interval: &mut Interval,
+) -> Result<(), Fault> {
+    for part in text.split(';') {
+        let Some((kind, points)) = part.split_once('@') else {
+            return Err(line.fault(field, format!("`{part}` is not a kind, an @ and points")));
+        };
+        let kind = kind_of(line, field, kind, &SCHEDULE_KINDS, MARKET)?;
+        let [first, count] = match points.split_once('+').filter(|_| !points.contains(':')) {
+            Some((first, count)) => [line.unsigned(field, first)?, line.unsigned(field, count)?],
+            None => {
+                let list = point_list(line, field, points)?;
+                let first = interval.points.len() as u32;
+                interval.points.extend(&list);
+                [first, list.len() as u32]
+            }
+        };
+        interval.schedules.push([kind, first, count]);
+    }
     Ok(())
 }
 

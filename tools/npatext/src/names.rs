@@ -33,5 +33,8 @@ pub const KINDS: [&str; 6] = [
     "importer",
 ];
 
+/// Kinds 1 to 3 of a schedule.
+pub const SCHEDULE_KINDS: [&str; 3] = ["market", "pls", "cost"];
+
 /// The kinds that have no commitment.
 pub const UNCOMMITTED: [u32; 2] = [4, 5];

@@ -1,10 +1,10 @@
 //! From a stream to text from which the same bytes are made.
 
 use crate::make::{end_of, make_under, Terms};
-use crate::names::{Sign, KINDS, ROW_WORDS};
+use crate::names::{Sign, KINDS, ROW_WORDS, SCHEDULE_KINDS};
 use npa_tests::layout::{
-    hex, word_at, BLOCK_MOST, FILE_MOST, HEADER_BYTES, OPENING_BYTES, PLAIN_FORMAT, POINT_BYTES,
-    ROW_BYTES, YEAR_FORMAT, YEAR_OPENING_BYTES,
+    hex, word_at, Format, RowWords, BLOCK_MOST, FILE_MOST, MARKET, OPENING_BYTES, PLAIN_FORMAT,
+    POINT_BYTES, SCHEDULE_BYTES, YEAR_FORMAT, YEAR_OPENING_BYTES,
 };
 
 /// Bytes that one line shows.
@@ -46,7 +46,7 @@ pub fn show(stream: &[u8]) -> String {
 fn show_block(number: u64, block: &[u8], terms: Option<Terms>) -> String {
     let mut text = match number {
         0 if block.len() >= OPENING_BYTES => show_opening(block),
-        1.. if block.len() >= HEADER_BYTES => show_interval(block, terms),
+        1.. if block.len() >= Format::of(block).header_bytes() => show_interval(block, terms),
         _ => format!("block length={}\n", block.len()),
     };
     let said = make_under(terms, &text).expect("what is shown can be made");
@@ -130,11 +130,60 @@ fn id_list(ids: &[u32]) -> String {
     parts.join(",")
 }
 
-/// The interval line, its rows, and points that no row has as its curve.
+/// The tables of an interval.
+struct Tables {
+    format: Format,
+    rows: Vec<RowWords>,
+    points: Vec<[u32; 2]>,
+    schedules: Vec<[u32; 3]>,
+}
+
+impl Tables {
+    /// Those that lie wholly in the block, by counts and offsets.
+    fn read(block: &[u8], format: Format, places: &[u32]) -> Self {
+        let rows = match format {
+            Format::One => {
+                let rows: Vec<[u32; 14]> = table(block, places[0], places[1]).unwrap_or_default();
+                rows.iter().map(whole_row).collect()
+            }
+            Format::Two => table(block, places[0], places[1]).unwrap_or_default(),
+        };
+        Tables {
+            format,
+            rows,
+            points: table(block, places[2], places[3]).unwrap_or_default(),
+            schedules: match places[4..] {
+                [count, at] => table(block, count, at).unwrap_or_default(),
+                _ => Vec::new(),
+            },
+        }
+    }
+
+    /// Name, number and bytes of each table.
+    fn sizes(&self) -> [(&'static str, usize, usize); 3] {
+        let [rows, points, schedules] = [self.rows.len(), self.points.len(), self.schedules.len()];
+        [
+            ("rows", rows, self.format.row_bytes() * rows),
+            ("points", points, POINT_BYTES * points),
+            ("schedules", schedules, SCHEDULE_BYTES * schedules),
+        ]
+    }
+}
+
+/// A row of format 1 with a last word that it does not have.
+fn whole_row(row: &[u32; 14]) -> RowWords {
+    std::array::from_fn(|index| row.get(index).copied().unwrap_or(0))
+}
+
+/// The interval line, its rows, and points and schedules that no row has as its own.
 fn show_interval(block: &[u8], terms: Option<Terms>) -> String {
-    let head: [u32; 10] = words(block, 0);
-    let rows: Vec<[u32; 14]> = table(block, head[6], head[7]).unwrap_or_default();
-    let points: Vec<[u32; 2]> = table(block, head[8], head[9]).unwrap_or_default();
+    let format = Format::of(block);
+    let head: [u32; 6] = words(block, 0);
+    let places: Vec<u32> = match format {
+        Format::One => words::<4>(block, 24).to_vec(),
+        Format::Two => words::<6>(block, 24).to_vec(),
+    };
+    let tables = Tables::read(block, format, &places);
     let mut text = format!("interval {}", head[1]);
     say(&mut text, "format", head[0], 1);
     let above = |index: usize| terms.map(|terms| terms[index]);
@@ -145,47 +194,127 @@ fn show_interval(block: &[u8], terms: Option<Terms>) -> String {
     }
     say(&mut text, "region_wide", head[4], 0);
     say(&mut text, "imports", head[5] as i32, 0);
-    let (rows_at, points_at) = (head[7] as usize, head[9] as usize);
-    let (row_bytes, point_bytes) = (ROW_BYTES * rows.len(), POINT_BYTES * points.len());
-    say(&mut text, "rows", head[6] as usize, rows.len());
-    say(&mut text, "rows_at", rows_at, HEADER_BYTES);
-    say(&mut text, "points", head[8] as usize, points.len());
-    say(&mut text, "points_at", points_at, rows_at + row_bytes);
-    let tables = [(rows_at, row_bytes), (points_at, point_bytes)];
+    let (mut placed, mut usual) = (Vec::new(), format.header_bytes());
+    for (place, (name, count, bytes)) in places.chunks(2).zip(tables.sizes()) {
+        let at = place[1] as usize;
+        say(&mut text, name, place[0] as usize, count);
+        say(&mut text, &format!("{name}_at"), at, usual);
+        placed.push((at, bytes));
+        usual = at + bytes;
+    }
     say(
         &mut text,
         "length",
         block.len(),
-        end_of(HEADER_BYTES, &tables),
+        end_of(format.header_bytes(), &placed),
     );
-    text + "\n" + &show_rows(&rows, &points)
+    text + "\n" + &show_rows(&tables)
 }
 
-/// The rows, each with its curve if its points are not said before.
-fn show_rows(rows: &[[u32; 14]], points: &[[u32; 2]]) -> String {
+/// How many points and schedules are said so far.
+#[derive(Default)]
+struct SaidSoFar {
+    points: usize,
+    schedules: usize,
+}
+
+/// The rows, each with its curve or its schedules if these are not said before.
+fn show_rows(tables: &Tables) -> String {
     let mut text = String::new();
-    let mut said = 0;
-    for row in rows {
-        let (first, count) = (row[12] as usize, row[13] as usize);
-        let own = count > 0 && first >= said && first + count <= points.len();
-        if own {
-            text += &show_points(&points[said..first]);
-            said = first + count;
-        }
-        text += &show_row(row);
-        if own {
-            text += &format!(" curve={}", point_list(&points[first..said]));
-        } else {
-            say(&mut text, "first", first, 0);
-            say(&mut text, "points", count, 0);
-        }
-        text.push('\n');
+    let mut said = SaidSoFar::default();
+    for row in &tables.rows {
+        let (before, named) = match tables.format {
+            Format::One => show_curve(row, tables, &mut said),
+            Format::Two => show_offer(row, tables, &mut said),
+        };
+        text += &format!("{before}{}{named}\n", show_row(row));
     }
-    text + &show_points(&points[said..])
+    text += &show_points(&tables.points[said.points..]);
+    text + &show_schedules(&tables.schedules[said.schedules..])
 }
 
-/// A row without its points.
-fn show_row(row: &[u32; 14]) -> String {
+/// The curve of a row of format 1, and the points that stand before it.
+fn show_curve(row: &RowWords, tables: &Tables, said: &mut SaidSoFar) -> (String, String) {
+    let (first, count) = (row[12] as usize, row[13] as usize);
+    if count == 0 || first < said.points || first + count > tables.points.len() {
+        return (String::new(), show_stretch(row, "points"));
+    }
+    let before = show_points(&tables.points[said.points..first]);
+    said.points = first + count;
+    let list = point_list(&tables.points[first..said.points]);
+    (before, format!(" curve={list}"))
+}
+
+/// The schedules of a row of format 2, and the points and schedules that stand before them.
+fn show_offer(row: &RowWords, tables: &Tables, said: &mut SaidSoFar) -> (String, String) {
+    let (first, count) = (row[12] as usize, row[13] as usize);
+    let mut dispatched = String::new();
+    say(&mut dispatched, "dispatched", row[14], 0);
+    if count == 0 || first < said.schedules || first + count > tables.schedules.len() {
+        return (String::new(), show_stretch(row, "schedules") + &dispatched);
+    }
+    let mut before = show_schedules(&tables.schedules[said.schedules..first]);
+    said.schedules = first + count;
+    let own = &tables.schedules[first..said.schedules];
+    let behind = own
+        .iter()
+        .map(|schedule| schedule[1] as usize)
+        .find(|point| *point >= said.points);
+    if let Some(points) = behind.and_then(|point| tables.points.get(said.points..point)) {
+        before += &show_points(points);
+        said.points += points.len();
+    }
+    let parts: Vec<String> = own
+        .iter()
+        .map(|schedule| show_schedule(schedule, tables, said))
+        .collect();
+    (before, format!(" offer={}{dispatched}", parts.join(";")))
+}
+
+/// A schedule, with its points if they are the next to be said.
+fn show_schedule(schedule: &[u32; 3], tables: &Tables, said: &mut SaidSoFar) -> String {
+    let [kind, first, count] = schedule.map(|word| word as usize);
+    let own = first == said.points && count > 0;
+    let points = tables.points.get(first..first + count).filter(|_| own);
+    let Some(points) = points else {
+        return named_schedule(schedule);
+    };
+    said.points += count;
+    format!("{}@{}", schedule_kind(kind as u32), point_list(points))
+}
+
+/// A schedule with the first and the number of its points.
+fn named_schedule([kind, first, count]: &[u32; 3]) -> String {
+    format!("{}@{first}+{count}", schedule_kind(*kind))
+}
+
+/// A kind by its name, or its number if it has none.
+fn schedule_kind(kind: u32) -> String {
+    let named = kind
+        .checked_sub(MARKET)
+        .and_then(|kind| SCHEDULE_KINDS.get(kind as usize));
+    named.map_or(kind.to_string(), |name| name.to_string())
+}
+
+/// The line of schedules that no row has as its own, if there are any.
+fn show_schedules(schedules: &[[u32; 3]]) -> String {
+    if schedules.is_empty() {
+        return String::new();
+    }
+    let parts: Vec<String> = schedules.iter().map(named_schedule).collect();
+    format!("schedules {}\n", parts.join(";"))
+}
+
+/// First entry and number of entries of a row.
+fn show_stretch(row: &RowWords, number: &str) -> String {
+    let mut text = String::new();
+    say(&mut text, "first", row[12], 0);
+    say(&mut text, number, row[13], 0);
+    text
+}
+
+/// A row without its points or schedules.
+fn show_row(row: &RowWords) -> String {
     let kind = KINDS.get(row[1] as usize);
     let kind = kind.map_or(row[1].to_string(), |name| name.to_string());
     let mut text = format!("row {} kind={kind}", row[0]);

@@ -88,8 +88,8 @@ fn what_was_refused_or_cut() {
         .filter_map(|line| line.split_once("on ground ")?.1.split_once(':'))
         .map(|(ground, _)| ground)
         .collect();
-    assert_eq!(grounds.len(), 9, "{grounds:?}");
-    assert_eq!(text.lines().count(), 1 + 50 + 1);
+    assert_eq!(grounds.len(), 10, "{grounds:?}");
+    assert_eq!(text.lines().count(), 1 + 66 + 1);
 }
 
 /// A listing that is not the stream's: the first line that differs, with what it should be.
@@ -277,7 +277,7 @@ fn refusals_have_their_table() {
     folder.sample("refusals");
     folder
         .run(&["tables", "refusals.stream", "refusals.csv", "tables"])
-        .writes("tables/rows.csv: 1030 rows\ntables/pools.csv: 5 pools\ntables/refusals.csv: 50 refusals\n");
+        .writes("tables/rows.csv: 1030 rows\ntables/pools.csv: 5 pools\ntables/refusals.csv: 66 refusals\n");
     table(&folder, "rows", ROWS);
     table(&folder, "pools", POOLS);
     let refusals: Vec<String> = table(&folder, "refusals", REFUSALS)
@@ -286,9 +286,11 @@ fn refusals_have_their_table() {
         .collect();
     for line in [
         "2,,,,,refused,7,the interval file is too short or too long or of another format",
-        "7,105408,,,,refused,9,the interval is not in the year or region-wide or imports are out of range",
-        "11,10,6,1,00:50,refused,10,the interval is before the earliest that is still accepted",
-        "55,,,,,refused,7,a length of 49153: nothing after it is listed",
+        "9,105408,,,,refused,9,the interval is not in the year or region-wide or imports are out of range",
+        "13,10,6,1,00:50,refused,10,the interval is before the earliest that is still accepted",
+        "61,12,6,1,01:00,refused,18,the schedules of a row are too many or misplaced or of no kind or none is the one \
+         dispatched on",
+        "71,,,,,refused,7,a length of 61441: nothing after it is listed",
     ] {
         assert!(refusals.contains(&line.to_string()), "{line}");
     }

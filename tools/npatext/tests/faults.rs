@@ -14,6 +14,57 @@ fn said(line: &str) -> String {
     make(&text).expect_err(line).to_string()
 }
 
+/// What is said of a line below an interval of format 2.
+fn said_of_format_2(line: &str) -> String {
+    let text = format!("{OPENING}\ninterval 0 format=2\n{line}");
+    make(&text).expect_err(line).to_string()
+}
+
+#[test]
+fn faults_of_schedules_name_line_and_field() {
+    for (line, what) in [
+        (
+            "row 1 kind=0 curve=1:2",
+            "field curve: is no field of `row`",
+        ),
+        (
+            "row 1 kind=0 points=2",
+            "field points: is no field of `row`",
+        ),
+        (
+            "row 1 kind=0 offer=market",
+            "field offer: `market` is not a kind, an @ and points",
+        ),
+        (
+            "row 1 kind=0 offer=spot@1:2",
+            "field offer: `spot` is none of market, pls, cost, and no number of 32 bits",
+        ),
+        (
+            "row 1 kind=0 offer=cost@1",
+            "field offer: `1` is not a price, a colon and kW",
+        ),
+        (
+            "row 1 kind=0 offer=cost@1:2;",
+            "field offer: `` is not a kind, an @ and points",
+        ),
+        (
+            "row 1 kind=0 offer=cost@-1+2",
+            "field offer: `-1` is not a number from 0 to 4294967295",
+        ),
+        (
+            "row 1 kind=0 offer=cost@1:2 schedules=1",
+            "field schedules: is given beside `offer`, which says it",
+        ),
+        (
+            "row 1 kind=0 offer=cost@1:2 first=0",
+            "field first: is given beside `offer`, which says it",
+        ),
+        ("schedules", "field schedules: is missing"),
+    ] {
+        assert_eq!(said_of_format_2(line), format!("line 3, {what}"), "{line}");
+    }
+}
+
 #[test]
 fn faults_name_line_and_field() {
     let signed = "is not a number from -2147483648 to 2147483647";
@@ -71,6 +122,18 @@ fn faults_name_line_and_field() {
             "line 4, field points: is given beside `curve`, which says it".to_string(),
         ),
         ("points", "line 4, field points: is missing".to_string()),
+        (
+            "schedules market@0+1",
+            "line 4: `schedules` needs an interval of format=2 above it".to_string(),
+        ),
+        (
+            "row 1 kind=0 offer=market@1:2",
+            "line 4, field offer: is no field of `row`".to_string(),
+        ),
+        (
+            "row 1 kind=0 dispatched=1",
+            "line 4, field dispatched: is no field of `row`".to_string(),
+        ),
         (
             "bytes 39 0102",
             "line 4, field bytes: lie beyond the block's end".to_string(),

@@ -104,6 +104,7 @@ fn fields_are_the_words_of_the_layouts() {
         lmp: -31,
         first: 0,
         count: 2,
+        dispatched: 0,
     };
     let prd = Row {
         id: 36,
@@ -142,6 +143,49 @@ fn a_year_is_a_word_of_the_opening() {
     assert_eq!(made(text), stream_of(&[&plain.bytes()]));
 }
 
+/// The words of format 2: three tables, rows that own schedules and rows that name some, and schedules with points of
+/// their own and with named ones.
+#[test]
+fn fields_of_format_2() {
+    let text = "
+        interval 10 format=2 net_cone=12 days=13 schedules_at=300
+        schedules 9@7+8
+        points 1:2
+        row 20 kind=prd offer=market@-32:33,34:35;pls@0+1;cost@36:37 dispatched=2
+        row 21 kind=demand first=38 schedules=39 dispatched=40
+        schedules cost@4+5";
+    let row = |id, kind, first, count, dispatched| Row {
+        id,
+        kind,
+        first,
+        count,
+        dispatched,
+        ..Row::default()
+    };
+    let rows = vec![row(20, 3, 1, 3, 2).words(), row(21, 1, 38, 39, 40).words()];
+    let points = vec![[1, 2], [-32i32 as u32, 33], [34, 35], [36, 37]];
+    let mut file = IntervalFile::new(12, 13, 10, rows, points).with_schedules(vec![
+        [9, 7, 8],
+        [1, 1, 2],
+        [2, 0, 1],
+        [3, 3, 1],
+        [3, 4, 5],
+    ]);
+    file.place_three([48, 168, 300], 360);
+    let stream = stream_of(&[&file.bytes()]);
+    assert_eq!(make(text).unwrap(), stream);
+}
+
+/// A format that there is not is laid out as format 1, and shown so.
+#[test]
+fn another_format() {
+    let stream =
+        make("opening net_cone=1 days=365 ids=1\ninterval 0 format=3\nrow 1 kind=demand curve=1:2")
+            .unwrap();
+    assert!(show(&stream).contains("interval 0 format=3\nrow 1 kind=demand curve=1:2\n"));
+    hold(&stream, "format 3");
+}
+
 /// A line for several rows makes the same bytes as a line for each, with points shared.
 #[test]
 fn rows_that_are_alike() {
@@ -151,6 +195,18 @@ fn rows_that_are_alike() {
         row 2 kind=1 metered=-4 first=0 points=1
         row 3 kind=1 metered=-4 first=0 points=1
         row 7 kind=1 metered=-4 first=0 points=1";
+    let [alike, each] = [alike, each].map(|rows| make(&format!("{opening}{rows}")));
+    assert_eq!(alike, each);
+}
+
+/// In format 2 they share their schedules.
+#[test]
+fn rows_that_are_alike_in_format_2() {
+    let opening = "opening net_cone=1 days=365 ids=1-9\ninterval 0 format=2\n";
+    let alike = "row 1-2,7 kind=demand offer=cost@5:6;market@0+1 dispatched=1";
+    let each = "row 1 kind=1 offer=3@5:6;1@0+1 dispatched=1
+        row 2 kind=1 first=0 schedules=2 dispatched=1
+        row 7 kind=1 first=0 schedules=2 dispatched=1";
     let [alike, each] = [alike, each].map(|rows| make(&format!("{opening}{rows}")));
     assert_eq!(alike, each);
 }

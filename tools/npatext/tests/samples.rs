@@ -1,5 +1,6 @@
 //! The samples: every stream is made of its text, and every listing and page is the reference's.
 
+use npa_tests::random::SETTLING_GROUNDS;
 use npa_tests::reference::{npalist, npapage, HEADING};
 use npa_tests::streams::document;
 use npatext::{make, show};
@@ -72,6 +73,7 @@ fn samples_are_complete() {
         "opening_3",
         "opening_length",
         "refusals",
+        "schedules",
         "year2016",
     ];
     assert_eq!(names, wanted);
@@ -193,6 +195,28 @@ pool,271,0,0,0,0
     assert!(page.ends_with("\nyear,11,268464,0,270,0,270\n"));
 }
 
+/// Worked by hand: the pool of interval 100 is 70000, 60000 and 50000 kW at 30.41667 cents.
+#[test]
+fn schedules_decide_what_is_excused() {
+    let printed = "\
+interval,id,expected,actual,outage,economic,shortfall,bonus,charge,credit
+100,11,100000,10000,0,20000,70000,0,2129167,0
+100,12,100000,10000,0,30000,60000,0,1825000,0
+100,13,100000,10000,0,40000,50000,0,1520833,0
+100,14,0,90000,0,0,0,60000,0,5015267
+100,15,1000,1500,0,0,0,500,0,41793
+100,16,50000,55000,0,0,0,5000,0,417938
+pool,100,1000000,5475000,5474998,2
+101,11,100000,10000,0,20000,70000,0,2129167,0
+101,14,0,30000,20000,0,0,20000,0,2129169
+pool,101,1000000,2129167,2129169,0
+102,11,100000,10000,0,40000,50000,0,1520833,0
+102,14,0,30000,20000,0,0,20000,0,1520833
+pool,102,1000000,1520833,1520833,0
+";
+    assert_eq!(text("schedules", "csv"), printed);
+}
+
 /// The numbers of the lines that begin with a word, or with a number if there is none.
 fn lines(csv: &str, word: Option<&str>) -> Vec<Vec<u64>> {
     let numbers = |line: &str| {
@@ -210,7 +234,10 @@ fn refusals_show_every_ground() {
     let csv = text("refusals", "csv");
     let refused = lines(&csv, Some("refused,"));
     let grounds: BTreeSet<u64> = refused.iter().map(|line| line[1]).collect();
-    let wanted: BTreeSet<u64> = (7..=16).filter(|ground| *ground != 15).collect();
+    let settling = SETTLING_GROUNDS.into_iter().map(u64::from);
+    let wanted: BTreeSet<u64> = settling
+        .filter(|ground| ![6, 15].contains(ground))
+        .collect();
     assert_eq!(grounds, wanted);
     assert_eq!(lines(&csv, Some("pool,")).len(), 5);
     assert!(csv.ends_with(",7\n"));

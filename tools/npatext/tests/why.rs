@@ -215,6 +215,59 @@ fn intervals_in_words() {
     }
 }
 
+/// Every fault of schedules: what stands in the text, and what is said of it, each with its ground.
+#[test]
+fn schedules_in_words() {
+    for (text, faults) in [
+        (
+            "row 1 kind=0 offer=market@0:0;pls@0+1;cost@0+1;cost@0+1;cost@0+1 dispatched=5",
+            &[
+                "row 1 (id 1): schedules 5 above 4, ground 18",
+                "row 1 (id 1): dispatched 5 not below schedules 5, ground 18",
+            ][..],
+        ),
+        (
+            "row 1 kind=5 first=7 dispatched=1\nrow 2 kind=0 first=1 schedules=2\nschedules 1@0+1;2@0+1\npoints 0:0",
+            &[
+                "row 1 (id 1): dispatched 1 above 0, without schedules, ground 18",
+                "row 2 (id 2): 2 schedules from first 1 end at 3, beyond the 2 of the table, ground 18",
+            ],
+        ),
+        (
+            "row 1 kind=0 offer=0@0:0;4@0+1;3@0+1\nschedules 99@99+99",
+            &[
+                "row 1 (id 1), schedule 1: kind 0 below 1, ground 18",
+                "row 1 (id 1), schedule 2: kind 4 above 3, ground 18",
+            ],
+        ),
+        (
+            "row 1 kind=1 offer=cost@0+0;pls@5:5,4:4;market@1+2\nrow 2 kind=0 first=1 schedules=1",
+            &[
+                "row 1 (id 1), schedule 1: points 0 below 1, ground 14",
+                "row 1 (id 1), schedule 2, point 2: price 4 below 5, that of point 1, ground 14",
+                "row 1 (id 1), schedule 2, point 2: kw 4 below 5, that of point 1, ground 14",
+                "row 1 (id 1), schedule 3: 2 points from first 1 end at 3, beyond the 2 of the table, ground 14",
+                "row 2 (id 2), schedule 1, point 2: price 4 below 5, that of point 1, ground 14",
+                "row 2 (id 2), schedule 1, point 2: kw 4 below 5, that of point 1, ground 14",
+            ],
+        ),
+        (
+            "row 1 kind=0 offer=cost@5:5,4:4\nrow 2 kind=0 dispatched=1\nrow 3 kind=6",
+            &[
+                "row 3 (id 3): kind 6 above 5, ground 13",
+                "row 2 (id 2): dispatched 1 above 0, without schedules, ground 18",
+                "row 1 (id 1), schedule 1, point 2: price 4 below 5, that of point 1, ground 14",
+                "row 1 (id 1), schedule 1, point 2: kw 4 below 5, that of point 1, ground 14",
+            ],
+        ),
+    ] {
+        let place = "block 1 (interval 7), ";
+        let lines: Vec<String> = faults.iter().map(|fault| format!("{place}{fault}")).collect();
+        let said = said_of(&format!("{OPENING}\ninterval 7 format=2\n{text}"));
+        assert_eq!(said, lines, "{text}");
+    }
+}
+
 /// Faults of a header, of which each interval of the text has some.
 #[test]
 fn headers_in_words() {
@@ -229,7 +282,21 @@ fn headers_in_words() {
             "imports 40000001 above 40000000, ground 9",
         ]),
         ("interval 7 imports=-40000001", &["imports -40000001 below -40000000, ground 9"]),
-        ("interval 7 format=2", &["format 2, not 1 (the rest is read as format 1), ground 7"]),
+        ("interval 7 format=3", &["format 3, neither 1 nor 2 (the rest is read as format 1), ground 7"]),
+        ("interval 7 length=49153", &["49153 bytes, over 49152, ground 7"]),
+        ("interval 7 format=2 schedules=1025", &[
+            "schedules 1025 above 1024, ground 11",
+            "1025 schedules from schedules_at 108 end at byte 12408, beyond its 108 bytes; its schedules are not \
+             examined, ground 11",
+        ]),
+        ("interval 7 format=2 rows_at=47 points_at=48 length=108", &[
+            "rows_at 47 below 48; its rows are not examined, ground 11",
+        ]),
+        ("interval 7 format=2 schedules_at=47", &["schedules_at 47 below 48, ground 11"]),
+        ("interval 7 format=2 points=1 points_at=104 schedules=1 schedules_at=111 length=123", &[
+            "rows and points share bytes 104 to 107, ground 11",
+            "points and schedules share bytes 111 to 111, ground 11",
+        ]),
         ("interval 7 rows=513", &[
             "rows 513 above 512, ground 11",
             "513 rows from rows_at 40 end at byte 28768, beyond its 96 bytes; its rows are not examined, ground 11",
@@ -264,11 +331,12 @@ fn headers_in_words() {
     );
     assert_eq!(
         said_of(&format!(
-            "{OPENING}\nblock length=39\nbytes 0 01\nlength 49153\nraw 0102"
+            "{OPENING}\nblock length=39\nbytes 0 01\nblock length=47\nbytes 0 02\nlength 61441\nraw 0102"
         )),
         [
             "block 1 (interval 0): 39 bytes, under 40, ground 7",
-            "block 2: length 49153 above 49152 (2 bytes after it not read), ground 7",
+            "block 2 (interval 0): 47 bytes, under 48, ground 7",
+            "block 3: length 61441 above 61440 (2 bytes after it not read), ground 7",
         ]
     );
 }
@@ -360,7 +428,7 @@ fn cuts_in_words() {
 #[test]
 fn blocks_after_a_refused_opening() {
     let text = "opening net_cone=1 days=364 ids=1\ninterval 0\nrow 1 kind=demand\n\
-                interval 1 net_cone=5\nrow 1 kind=6\nlength 49153\nraw 00";
+                interval 1 net_cone=5\nrow 1 kind=6\nlength 61441\nraw 00";
     assert_eq!(
         said_of(text),
         [
@@ -368,7 +436,7 @@ fn blocks_after_a_refused_opening() {
             "block 0 is refused, so nothing after it is listed; what follows is examined alone, without grounds 8, \
              10 and 16 and without the ids of an opening",
             "block 2 (interval 1), row 1 (id 1): kind 6 above 5, ground 13",
-            "block 3: length 49153 above 49152 (1 byte after it not read), ground 7",
+            "block 3: length 61441 above 61440 (1 byte after it not read), ground 7",
         ]
     );
 }
@@ -397,7 +465,7 @@ fn faults_are_counted() {
         .run(&["why", "document.stream"])
         .writes("no faults in 2 blocks\n");
     for (sample, count) in [
-        ("refusals", "55 faults in 50 of 56 blocks"),
+        ("refusals", "74 faults in 66 of 72 blocks"),
         ("afternoon", "no faults in 25 blocks"),
         ("cut", "1 fault in 1 of 3 blocks"),
     ] {
@@ -487,7 +555,7 @@ fn first_grounds_are_npalists() {
     let grounds: Vec<u32> = met.keys().copied().collect();
     assert_eq!(
         grounds,
-        [1, 2, 3, 4, 7, 8, 9, 10, 11, 12, 13, 14, 16, 23],
+        [1, 2, 3, 4, 7, 8, 9, 10, 11, 12, 13, 14, 16, 18, 23],
         "{met:?}"
     );
 }
@@ -523,7 +591,7 @@ fn first_grounds_of_damaged_blocks_are_npalists() {
         };
         agree(&stream, &format!("seed {seed}"), &mut met);
     }
-    for ground in (1..=4).chain(7..=14).chain([23]) {
+    for ground in (1..=4).chain(7..=14).chain([18, 23]) {
         assert!(
             met.get(&ground).is_some_and(|count| *count > 5),
             "{ground}: {met:?}"

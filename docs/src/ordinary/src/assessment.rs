@@ -1,6 +1,9 @@
 //! The rules of one interval, in kW.
 
-use crate::file::{Header, Point, Row, DEMAND, EFFICIENCY, ENERGY_ONLY, GENERATION, IMPORTER, PRD};
+use crate::file::{
+    Header, Offer, Point, Row, DEMAND, EFFICIENCY, ENERGY_ONLY, GENERATION, IMPORTER, PRD,
+};
+use crate::file::{Schedule, MARKET, PLS};
 
 /// The kW figures of a row; a row that does not count has zeros.
 #[derive(Default)]
@@ -20,7 +23,7 @@ pub struct Ratio {
 
 impl Ratio {
     /// Of all rows, with the imports of a region-wide event.
-    pub fn of(header: &Header, rows: &[Row], curves: &[&[Point]]) -> Self {
+    pub fn of(header: &Header, rows: &[Row], offers: &[Offer]) -> Self {
         let mut ratio = Ratio {
             numerator: 0,
             denominator: 0,
@@ -28,7 +31,7 @@ impl Ratio {
         if header.region_wide == 1 {
             ratio.numerator += header.imports.max(0) as u64;
         }
-        for (row, curve) in rows.iter().zip(curves) {
+        for (row, offer) in rows.iter().zip(offers) {
             let above = actual(row).saturating_sub(row.committed);
             match row.kind {
                 GENERATION => {
@@ -37,7 +40,7 @@ impl Ratio {
                 }
                 ENERGY_ONLY => ratio.numerator += actual(row),
                 DEMAND => ratio.numerator += above,
-                PRD if considered(row, curve) => ratio.numerator += above,
+                PRD if considered(row, offer.curve) => ratio.numerator += above,
                 _ => (),
             }
         }
@@ -54,31 +57,37 @@ impl Ratio {
 }
 
 /// All kW figures of a row.
-pub fn figures(header: &Header, row: &Row, curve: &[Point], ratio: &Ratio) -> Figures {
+pub fn figures(
+    header: &Header,
+    row: &Row,
+    offer: &Offer,
+    points: &[Point],
+    ratio: &Ratio,
+) -> Figures {
     match row.kind {
-        GENERATION => generator(row, curve, ratio.portion(row.committed)),
-        ENERGY_ONLY => generator(row, curve, 0),
+        GENERATION => generator(row, offer, points, ratio.portion(row.committed)),
+        ENERGY_ONLY => generator(row, offer, points, 0),
         DEMAND | EFFICIENCY => reduction(row),
-        PRD if considered(row, curve) => reduction(row),
+        PRD if considered(row, offer.curve) => reduction(row),
         IMPORTER if header.region_wide == 1 => reduction(row),
         _ => Figures::default(),
     }
 }
 
 /// Kinds 0 and 4.
-fn generator(row: &Row, curve: &[Point], expected: u64) -> Figures {
+fn generator(row: &Row, offer: &Offer, points: &[Point], expected: u64) -> Figures {
     let actual = actual(row);
     let outage = row.planned;
-    let scheduled = scheduled(row, curve);
     let available = row.owned.saturating_sub(row.planned + row.forced);
-    let able = row.maximum.min(expected).min(available);
-    let economic = able.saturating_sub(scheduled.max(actual));
     // a unit that sends no offer has no schedule to be held to
-    let most = if curve.is_empty() {
-        available
+    let (highest, most) = if offer.curve.is_empty() {
+        (row.committed, available)
     } else {
-        scheduled
+        let own = scheduled(row, offer.curve);
+        (highest_scheduled(row, offer, points, own), own)
     };
+    let able = row.maximum.min(expected).min(available);
+    let economic = able.saturating_sub(highest.max(actual));
     Figures {
         expected,
         actual,
@@ -116,11 +125,30 @@ fn considered(row: &Row, curve: &[Point]) -> bool {
     reached(row, curve).last().is_some_and(|point| point.kw > 0)
 }
 
-/// The kW that the curve schedules at the LMP.
+/// The most kW by the schedule dispatched on, which has so many of its own, and those that count beside it: all beside
+/// a market one, PLS and cost ones beside a PLS one, none beside a cost one.
+fn highest_scheduled(row: &Row, offer: &Offer, points: &[Point], own: u64) -> u64 {
+    let mut highest = own;
+    let dispatched = row.dispatched as usize;
+    for (number, schedule) in offer.schedules.iter().enumerate() {
+        if number != dispatched && counts(schedule, &offer.schedules[dispatched]) {
+            highest = highest.max(scheduled(row, schedule.curve(points)));
+        }
+    }
+    highest
+}
+
+fn counts(schedule: &Schedule, dispatched: &Schedule) -> bool {
+    match dispatched.kind {
+        MARKET => true,
+        PLS => schedule.kind != MARKET,
+        _ => false,
+    }
+}
+
+/// The kW that a curve schedules at the LMP.
 fn scheduled(row: &Row, curve: &[Point]) -> u64 {
-    let Some(last) = curve.last() else {
-        return row.committed;
-    };
+    let last = curve.last().expect("a schedule has points");
     if row.lmp > last.price {
         return row.maximum;
     }

@@ -17,7 +17,7 @@ pub use ledger::{ledger_bytes, ACCOUNTS_MOST};
 pub use opening::{open, BLOCK_MOST};
 pub use settling::{result_bytes, settle};
 
-pub use file::{FILE_MOST, ROWS_MOST};
+pub use file::ROWS_MOST;
 
 /// Goes on, or refuses on this ground.
 fn ensure(holds: bool, ground: u32) -> Result<(), u32> {

@@ -1,8 +1,8 @@
-//! Settling: grounds 6 to 16, charges, credits, and what an accepted file leaves.
+//! Settling: grounds 6 to 16 and 18, charges, credits, and what an accepted file leaves.
 
 use crate::assessment::{figures, Figures, Ratio};
 use crate::ensure;
-use crate::file::{points_of, rows_of, Header, Point, Row};
+use crate::file::{Header, Row};
 use crate::ledger::{Ledger, POOL_MOST};
 use crate::words::put_words64;
 
@@ -25,22 +25,21 @@ fn try_settle(ledger_bytes: &mut [u8], file: &[u8], result: &mut [u8]) -> Result
     ensure(header.terms == ledger.year.terms, 8)?;
     ensure(header.holds(), 9)?;
     ensure(header.interval >= ledger.earliest, 10)?;
-    let (rows, points) = header.tables(file).ok_or(11u32)?;
-    let rows = rows_of(rows);
-    let points = points_of(points);
-    let places = ledger.places(&rows).ok_or(12u32)?;
+    let tables = header.tables(file).ok_or(11u32)?;
+    let rows = &tables.rows;
+    let places = ledger.places(rows).ok_or(12u32)?;
     ensure(rows.iter().all(Row::holds), 13)?;
-    let curves: Option<Vec<&[Point]>> = rows.iter().map(|row| row.curve(&points)).collect();
-    let curves = curves.ok_or(14u32)?;
+    ensure(tables.schedules_hold(), 18)?;
+    let offers = tables.offers().ok_or(14u32)?;
     ensure(result.len() >= result_bytes(rows.len()), 15)?;
 
-    let ratio = Ratio::of(&header, &rows, &curves);
+    let ratio = Ratio::of(&header, rows, &offers);
     let figures: Vec<Figures> = rows
         .iter()
-        .zip(&curves)
-        .map(|(row, curve)| figures(&header, row, curve, &ratio))
+        .zip(&offers)
+        .map(|(row, offer)| figures(&header, row, offer, &tables.points, &ratio))
         .collect();
-    let charges = charge(&mut ledger, &places, &rows, &figures);
+    let charges = charge(&mut ledger, &places, rows, &figures);
     let charged: u64 = charges.iter().sum();
     let pool = ledger.carried + charged;
     ensure(pool <= POOL_MOST, 16)?;

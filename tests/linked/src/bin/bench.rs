@@ -1,15 +1,19 @@
-//! `bench` times settling by the module and by the ordinary program of docs/src, on the same files; then an
-//! event beside the same files settled one by one, both by the module.
+//! `bench` times settling by the module and by the ordinary program of docs/src, on the same files: of format 1 for
+//! several numbers of rows, then full ones of each format; then an event beside the same files settled one by one, both
+//! by the module.
 //!
 //! Each case is a stream of accepted files, settled from an opened ledger. Both leave the same
 //! bytes after every file, which is checked first. Rounds of the two take turns. The time of a
 //! stretch of files is the least of all rounds, so that other work on the machine hardly counts.
 
 use npa_linked::npa;
-use npa_tests::layout::{ledger_bytes, push_block, result_bytes, Opening, IDS_MOST, ROWS_MOST};
+use npa_tests::layout::{
+    ledger_bytes, push_block, result_bytes, IntervalFile, Opening, IDS_MOST, ROWS_MOST,
+    ROW_SCHEDULES_MOST,
+};
 use npa_tests::listing::{DAYS, NET_CONE};
 use npa_tests::outcome::shown;
-use npa_tests::random::{event_file, rising, some_of, Rng};
+use npa_tests::random::{event_file, four_schedules, rising, some_of, Rng};
 use npa_tests::streams::ROW_POINTS;
 use std::process::ExitCode;
 use std::time::{Duration, Instant};
@@ -37,6 +41,39 @@ enum Among {
     Last,
 }
 
+/// How the rows of a file have their curves.
+#[derive(Clone, Copy)]
+enum Offers {
+    /// In format 1.
+    Points,
+    /// In format 2, as one market schedule.
+    OneSchedule,
+    /// In format 2, as four schedules, shared as the most schedules and points of a file ask for.
+    FourSchedules,
+}
+
+impl Offers {
+    /// The file of format 1 with its curves so offered.
+    fn of(self, rng: &mut Rng, file: IntervalFile) -> IntervalFile {
+        match self {
+            Offers::Points => file,
+            Offers::OneSchedule => file.in_format_2(),
+            Offers::FourSchedules => four_schedules(rng, file),
+        }
+    }
+
+    /// What is printed in front of the times.
+    fn name(self) -> String {
+        match self {
+            Offers::Points => format!("format 1, {ROW_POINTS} points"),
+            Offers::OneSchedule => format!("format 2, 1 schedule of {ROW_POINTS} points"),
+            Offers::FourSchedules => {
+                format!("format 2, {ROW_SCHEDULES_MOST} schedules of {ROW_POINTS} points")
+            }
+        }
+    }
+}
+
 struct Case {
     rows: usize,
     among: Among,
@@ -46,7 +83,7 @@ struct Case {
 }
 
 impl Case {
-    fn new(rows: usize, among: Among) -> Self {
+    fn new(rows: usize, among: Among, offers: Offers) -> Self {
         let ids = match among {
             Among::Few => rising(rows),
             Among::Many | Among::Last => rising(IDS_MOST),
@@ -57,7 +94,9 @@ impl Case {
                 Among::Few | Among::Many => some_of(&mut rng, &ids, rows),
                 Among::Last => ids[ids.len() - rows..].to_vec(),
             };
-            event_file(&mut rng, interval, &ids, ROW_POINTS).bytes()
+            let file = event_file(&mut rng, interval, &ids, ROW_POINTS);
+            // Numbers of their own, so that the plants of all formats are alike.
+            offers.of(&mut Rng::new(interval.into()), file).bytes()
         };
         let files = (0..FILES).map(&mut file).collect();
         let mut ledger = vec![0; ledger_bytes(ids.len())];
@@ -147,7 +186,7 @@ struct Event {
 
 impl Event {
     fn new() -> Self {
-        let case = Case::new(ROWS_MOST, Among::Few);
+        let case = Case::new(ROWS_MOST, Among::Few, Offers::Points);
         let mut files = Vec::new();
         for file in &case.files[..EVENT_FILES] {
             push_block(&mut files, file);
@@ -232,7 +271,7 @@ fn time_event() -> Result<String, String> {
     ))
 }
 
-fn main() -> ExitCode {
+fn run() -> Result<String, String> {
     println!("settling {FILES} files with {ROW_POINTS} points a row, microseconds a file");
     println!("rows  accounts                  module  ordinary  ratio");
     let cases = [
@@ -246,13 +285,39 @@ fn main() -> ExitCode {
         (ROWS_MOST, Among::Few),
     ];
     for (rows, among) in cases {
-        let case = Case::new(rows, among);
-        if let Err(what) = case.check() {
-            return shown(Err::<String, _>(what));
-        }
+        let case = Case::new(rows, among, Offers::Points);
+        case.check()?;
         let [module, ordinary] = case.times();
         let ratio = module / ordinary;
         println!("{}{module:8.2}{ordinary:10.2}{ratio:7.2}", case.name());
     }
-    shown(time_event())
+    time_formats()?;
+    time_event()
+}
+
+/// Prints the times of full files in each format, and the ratio to those of format 1.
+fn time_formats() -> Result<(), String> {
+    println!("settling {FILES} files of {ROWS_MOST} rows, microseconds a file");
+    println!(
+        "curves of a row                     module  ordinary  ratio  module to format 1  ordinary"
+    );
+    let mut first = None;
+    for offers in [Offers::Points, Offers::OneSchedule, Offers::FourSchedules] {
+        let case = Case::new(ROWS_MOST, Among::Few, offers);
+        case.check()?;
+        let [module, ordinary] = case.times();
+        let [module_1, ordinary_1] = *first.get_or_insert([module, ordinary]);
+        println!(
+            "{:34}{module:8.2}{ordinary:10.2}{:7.2}{:20.2}{:10.2}",
+            offers.name(),
+            module / ordinary,
+            module / module_1,
+            ordinary / ordinary_1
+        );
+    }
+    Ok(())
+}
+
+fn main() -> ExitCode {
+    shown(run())
 }

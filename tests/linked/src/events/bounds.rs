@@ -1,10 +1,10 @@
 //! Numbers of files, lengths before them, and lengths of the four buffers, on both sides of every bound.
 
-use super::{listings, EventCase};
+use super::{listings, mixed, EventCase};
 use crate::settlings::ledger_bounds;
-use npa_tests::layout::{result_bytes, Ledger, FILE_MOST, IDS_MOST, ROWS_MOST};
+use npa_tests::layout::{result_bytes, Format, Ledger, FILE_MOST, IDS_MOST, ROWS_MOST};
 use npa_tests::listing::{DAYS, NET_CONE};
-use npa_tests::random::{event_file, rising, Rng};
+use npa_tests::random::{event_file, four_schedules, rising, Rng};
 use npa_tests::streams::ROW_POINTS;
 
 /// The kW that plant 12 is short in the listing's first file.
@@ -27,9 +27,11 @@ fn without_ledger(case: &EventCase) -> EventCase {
     case.with(|case| case.ledger.length = 0)
 }
 
-/// 0 to 50 files; and up to 50 of as many rows and points as a file may have.
+/// 0 to 50 files, of format 1 and of both; and up to 50 of as many rows, points and schedules as a file may have.
 fn numbers() -> Vec<EventCase> {
-    let mut cases: Vec<EventCase> = (0..=50).map(listings).collect();
+    let mut cases: Vec<EventCase> = (0..=50)
+        .flat_map(|count| [listings(count), mixed(count)])
+        .collect();
     cases.extend([1, 2, 50].map(full_files));
     cases.extend([1, 2, 50].map(|count| in_year(2016, &listings(count))));
     cases
@@ -56,18 +58,24 @@ fn limits() -> Vec<EventCase> {
     cases
 }
 
-/// So many of the largest files.
+/// So many of the largest files, by turns of format 2 and of format 1.
 fn full_files(count: u32) -> EventCase {
     let ids = rising(IDS_MOST);
     let mut rng = Rng::new(1);
-    let file = |interval| event_file(&mut rng, interval, &ids, ROW_POINTS).bytes();
+    let file = |interval| {
+        let file = event_file(&mut rng, interval, &ids, ROW_POINTS);
+        match interval % 2 {
+            0 => four_schedules(&mut rng, file).bytes(),
+            _ => file.bytes(),
+        }
+    };
     let ledger = Ledger::new(NET_CONE, DAYS, &ids);
     EventCase::new(ledger, (0..count).map(file).collect(), ROWS_MOST)
 }
 
 /// An event cut at every byte, with its ledger and without.
 fn cuts() -> Vec<EventCase> {
-    let whole = listings(3);
+    let whole = mixed(3);
     let bytes = whole.file_bytes();
     let cut = |at: usize| {
         whole.with(|case| {
@@ -108,20 +116,20 @@ fn lengths() -> Vec<EventCase> {
     [cases, without].concat()
 }
 
-/// Files at the limit of their length and far above it, which lie wholly in the buffer: no ground but 7 is for them.
+/// Files at the limits of their length and far above them, which lie wholly in the buffer: no ground but 7 is for them.
 fn long_files() -> Vec<EventCase> {
     let mut cases = Vec::new();
     for length in [
+        Format::One.most(),
+        Format::One.most() + 1,
         FILE_MOST,
         FILE_MOST + 1,
-        61_440,
-        61_441,
         65_535,
         65_536,
         1 << 20,
     ] {
         for index in 0..3 {
-            let case = listings(3).with(|case| {
+            let case = mixed(3).with(|case| {
                 let (told, file) = &mut case.files[index];
                 file.resize(length, 0);
                 *told = length as u32;
@@ -139,8 +147,7 @@ fn rooms() -> Vec<EventCase> {
     for count in [0, 1, 2, 3] {
         let needed = count as usize * result_bytes(4);
         let lengths = (0..=needed + 3).chain([needed + 64, needed + 4_096]);
-        cases
-            .extend(lengths.map(|length| listings(count).with(|case| case.result_length = length)));
+        cases.extend(lengths.map(|length| mixed(count).with(|case| case.result_length = length)));
     }
     cases
 }
@@ -154,7 +161,7 @@ fn counts() -> Vec<EventCase> {
         listings(1),
         some.clone(),
         without_ledger(&some),
-        some.with(|case| case.files[1].1[0] = 2),
+        some.with(|case| case.files[1].1[0] = 3),
         some.with(|case| case.tail = vec![1; 3]),
         some.with(|case| case.result_length = 0),
         some.with(|case| case.result_length -= 1),

@@ -4,18 +4,21 @@
 
 use super::EventCase;
 use crate::settlings::ledger_bounds::LARGEST;
-use npa_tests::layout::{result_bytes, IntervalFile, Ledger, Row, FILE_MOST, POOL_MOST};
+use npa_tests::layout::{
+    result_bytes, Format, IntervalFile, Ledger, Row, FILE_MOST, MARKET, POOL_MOST,
+};
 
 const IDS: [u32; 4] = [11, 12, 13, 14];
 
 /// A fault that makes a quiet file one to refuse on this ground.
 type FileFault = (u32, fn(&mut IntervalFile));
 
-const FILE_FAULTS: [FileFault; 18] = [
+const FILE_FAULTS: [FileFault; 22] = [
     (7, |file| file.length = 0),
     (7, |file| file.length = 39),
     (7, |file| file.length = FILE_MOST + 1),
-    (7, |file| file.head[0] = 2),
+    (7, |file| file.length = file.format.most() + 1),
+    (7, |file| file.head[0] = 3),
     (8, |file| file.head[2] -= 1),
     (8, |file| file.head[3] = 365),
     (9, |file| file.head[1] = 288 * 366),
@@ -28,9 +31,19 @@ const FILE_FAULTS: [FileFault; 18] = [
     (12, |file| file.rows[3][0] = 15),
     (13, |file| file.rows[3][1] = 5),
     (13, |file| file.rows[1][10] = 2),
-    (14, |file| file.rows[0][13] = 11),
+    (18, |file| name_schedule(file, 3, [4, 0, 1], 0)),
+    (18, |file| name_schedule(file, 1, [MARKET, 0, 1], 1)),
+    (14, |file| name_schedule(file, 0, [MARKET, 0, 11], 0)),
+    (14, |file| name_schedule(file, 2, [MARKET, 0, 0], 0)),
     (16, |file| file.rows[2][4] = 0),
 ];
+
+/// Makes a quiet file one of format 2 in which this row names this schedule.
+fn name_schedule(file: &mut IntervalFile, row: usize, schedule: [u32; 3], dispatched: u32) {
+    file.rows[row][12..].copy_from_slice(&[0, 1, dispatched]);
+    file.points = vec![[0, 0]; 20];
+    *file = file.clone().with_schedules(vec![schedule]);
+}
 
 /// A fault of the whole event, which is met at the file with this number.
 type EventFault = (u32, fn(&mut EventCase, usize));
@@ -66,7 +79,8 @@ fn cut_to(case: &mut EventCase, index: usize, bytes: usize) {
     case.tail = whole[..bytes].to_vec();
 }
 
-/// A file in which nobody is short and nobody has bonus; its figures are those of its number.
+/// A file in which nobody is short and nobody has bonus; its figures are those of its number, and every second has
+/// format 2.
 fn quiet_file(number: u32) -> IntervalFile {
     let row = |id: u32| {
         let kw = 100 * (number + 1) + id;
@@ -80,7 +94,11 @@ fn quiet_file(number: u32) -> IntervalFile {
         row.words()
     };
     let rows = IDS.map(row).to_vec();
-    IntervalFile::new(LARGEST.0, LARGEST.1, 1_000 + number, rows, Vec::new())
+    let file = IntervalFile::new(LARGEST.0, LARGEST.1, 1_000 + number, rows, Vec::new());
+    match Format::BOTH[number as usize % 2] {
+        Format::One => file,
+        Format::Two => file.in_format_2(),
+    }
 }
 
 /// A ledger that carries as much as it may, so that any charge is too much; intervals up to 499 are past.

@@ -1,7 +1,7 @@
 //! Schedules: curves of 0 to 10 points, and for each an LMP at, before and behind every point.
 
 use super::settling_of;
-use npa_tests::layout::{point, IntervalFile, Row, KW_MOST, PRICE_MOST, ROW_POINTS_MOST};
+use npa_tests::layout::{point, IntervalFile, Row, CURVE_POINTS_MOST, KW_MOST, PRICE_MOST};
 use npa_tests::listing::{DAYS, NET_CONE};
 use npa_tests::random::SettleCase;
 
@@ -38,7 +38,7 @@ const SHAPES: [Shape; 13] = [
 pub fn cases() -> Vec<SettleCase> {
     let mut cases = Vec::new();
     for shape in SHAPES {
-        for count in 0..=ROW_POINTS_MOST {
+        for count in 0..=CURVE_POINTS_MOST {
             let points: Vec<(i32, u32)> = (0..count).map(shape).collect();
             for range in ranges(&points) {
                 cases.push(all_rows(&points, range));

@@ -1,7 +1,8 @@
 //! Faults of every ground, one and two at a time, for the order of the grounds.
 
+use super::in_format_2;
 use super::ledger_bounds::full_pool;
-use npa_tests::layout::{ledger_bytes, result_bytes, FILE_MOST};
+use npa_tests::layout::{ledger_bytes, result_bytes, Format, FILE_MOST};
 use npa_tests::random::SettleCase;
 
 /// A fault that makes a settling with a full pool one to refuse on this ground.
@@ -36,11 +37,11 @@ const LEDGER: [Fault; 16] = [
     (6, |case| case.ledger.accounts[2][3] += 1),
 ];
 
-const FILE: [Fault; 21] = [
+const FILE: [Fault; 19] = [
     (7, |case| case.file.length = 0),
     (7, |case| case.file.length = 39),
     (7, |case| case.file.length = FILE_MOST + 1),
-    (7, |case| case.file.head[0] = 2),
+    (7, |case| case.file.head[0] = 3),
     (8, |case| case.file.head[2] -= 1),
     (8, |case| case.file.head[3] = 365),
     (9, |case| case.file.head[1] = 288 * 366),
@@ -51,10 +52,8 @@ const FILE: [Fault; 21] = [
     (11, |case| case.file.head[6] = 0),
     (11, |case| case.file.head[6] = 513),
     (11, |case| case.file.head[7] = 39),
-    (11, |case| case.file.head[7] = 41),
     (11, |case| case.file.head[8] = 2_049),
     (11, |case| case.file.head[9] = 0xffff_ffd0),
-    (11, |case| case.file.head[9] = 265),
     (15, |case| case.result_length = 0),
     (15, |case| case.result_length = result_bytes(4) - 1),
     (16, |case| {
@@ -63,7 +62,7 @@ const FILE: [Fault; 21] = [
     }),
 ];
 
-const ROWS: [Fault; 20] = [
+const ROWS: [Fault; 15] = [
     (12, |case| *row(case, 0, 0) = 10),
     (12, |case| *row(case, 1, 0) = 11),
     (12, |case| *row(case, 2, 0) = 12),
@@ -76,30 +75,65 @@ const ROWS: [Fault; 20] = [
     (13, |case| *row(case, 2, 2) = 1),
     (13, |case| *row(case, 3, 11) = 1_000_001),
     (13, |case| *row(case, 3, 7) = u32::MAX),
+    (14, |case| case.file.points[1][0] = 999),
+    (14, |case| case.file.points[3][1] = 9_999),
+    (14, |case| case.file.points[5][1] = 4_000_001),
+];
+
+/// Those of format 1 alone.
+const FORMAT_1: [Fault; 8] = [
+    (7, |case| case.file.length = Format::One.most() + 1),
+    (11, |case| case.file.head[7] = 41),
+    (11, |case| case.file.head[9] = 265),
     (14, |case| *row(case, 0, 13) = 11),
     (14, |case| *row(case, 0, 12) = 5),
-    (14, |case| case.file.points[1][0] = 999),
     (14, |case| *row(case, 1, 12) = u32::MAX),
-    (14, |case| case.file.points[3][1] = 9_999),
     (14, |case| *row(case, 2, 12) = 6),
-    (14, |case| case.file.points[5][1] = 4_000_001),
     (14, |case| *row(case, 3, 13) = 11),
 ];
 
-/// All faults.
-fn faults() -> Vec<Fault> {
-    [&LEDGER[..], &FILE, &ROWS].concat()
+/// Those of format 2 alone. Rows 0 to 2 name one schedule each, row 3 none; tables begin at 48, 288 and 336.
+const FORMAT_2: [Fault; 18] = [
+    (7, |case| case.file.length = 47),
+    (11, |case| case.file.head[7] = 47),
+    (11, |case| case.file.head[7] = 49),
+    (11, |case| case.file.head[9] = 289),
+    (11, |case| case.file.head[10] = 1_025),
+    (11, |case| case.file.head[11] = 335),
+    (11, |case| case.file.head[11] = 0xffff_ffdc),
+    (18, |case| *row(case, 0, 13) = 5),
+    (18, |case| *row(case, 0, 14) = 1),
+    (18, |case| case.file.schedules[1][0] = 4),
+    (18, |case| *row(case, 2, 12) = 3),
+    (18, |case| *row(case, 2, 12) = u32::MAX),
+    (18, |case| *row(case, 3, 14) = 1),
+    (14, |case| case.file.schedules[0][2] = 0),
+    (14, |case| case.file.schedules[0][2] = 11),
+    (14, |case| case.file.schedules[1][1] = u32::MAX),
+    (14, |case| case.file.schedules[2][1] = 5),
+    (14, |case| case.file.schedules[2][2] = u32::MAX),
+];
+
+/// A settling to accept in this format, and all faults that it may have.
+fn faults(format: Format) -> (SettleCase, Vec<Fault>) {
+    let (base, own) = match format {
+        Format::One => (full_pool(), &FORMAT_1[..]),
+        Format::Two => (in_format_2(&full_pool()), &FORMAT_2[..]),
+    };
+    (base, [&LEDGER[..], &FILE, &ROWS, own].concat())
 }
 
 /// Every two faults together; also each of them with itself, alone.
 pub fn cases() -> Vec<SettleCase> {
     let mut cases = Vec::new();
-    for (_, first) in faults() {
-        for (_, second) in faults() {
-            let mut case = full_pool();
-            first(&mut case);
-            second(&mut case);
-            cases.push(case);
+    for (base, faults) in Format::BOTH.map(faults) {
+        for (_, first) in &faults {
+            for (_, second) in &faults {
+                let mut case = base.clone();
+                first(&mut case);
+                second(&mut case);
+                cases.push(case);
+            }
         }
     }
     cases
@@ -109,20 +143,27 @@ pub fn cases() -> Vec<SettleCase> {
 mod tests {
     use super::super::answer;
     use super::*;
+    use npa_tests::random::SETTLING_GROUNDS;
 
     #[test]
     fn each_fault_has_its_ground_and_the_first_of_two_counts() {
-        assert_eq!(answer(&full_pool()), 0);
-        for (index, (ground, fault)) in faults().iter().enumerate() {
-            let mut case = full_pool();
-            fault(&mut case);
-            assert_eq!(answer(&case), *ground, "{index}");
-        }
         let cases = cases();
-        for (first, one) in faults().iter().enumerate() {
-            for (second, other) in faults().iter().enumerate() {
-                let case = &cases[first * faults().len() + second];
-                assert_eq!(answer(case), one.0.min(other.0), "{first} {second}");
+        let mut cases = cases.iter();
+        for (base, faults) in Format::BOTH.map(faults) {
+            assert_eq!(answer(&base), 0);
+            for (index, (ground, fault)) in faults.iter().enumerate() {
+                let mut case = base.clone();
+                fault(&mut case);
+                assert_eq!(answer(&case), *ground, "{index}");
+            }
+            for (first, one) in faults.iter().enumerate() {
+                for (second, other) in faults.iter().enumerate() {
+                    let case = cases.next().expect("a case for every two");
+                    let in_order = SETTLING_GROUNDS
+                        .into_iter()
+                        .find(|ground| [one.0, other.0].contains(ground));
+                    assert_eq!(Some(answer(case)), in_order, "{first} {second}");
+                }
             }
         }
     }

@@ -1,4 +1,4 @@
-//! Grounds 12, 13 and 14: rows and points on both sides of every bound.
+//! Grounds 12, 13 and 14: rows and points on both sides of every bound, all in files of format 1.
 
 use super::{listing, with};
 use npa_tests::layout::{point, KW_MOST, PRICE_MOST};
@@ -291,7 +291,7 @@ fn unused_points() -> Vec<SettleCase> {
 
 #[cfg(test)]
 mod tests {
-    use super::super::answer;
+    use super::super::{answer, in_format_2};
     use super::*;
 
     #[test]
@@ -314,6 +314,11 @@ mod tests {
             assert!(answers.contains(&ground), "{ground}");
             assert!(answers.contains(&0) || ground == 12, "{ground}");
             assert!(answers.iter().all(|a| *a == 0 || *a == ground), "{ground}");
+            let again: Vec<u32> = cases
+                .iter()
+                .map(|case| answer(&in_format_2(case)))
+                .collect();
+            assert_eq!(answers, again, "in format 2");
         }
     }
 
