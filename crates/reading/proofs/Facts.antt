@@ -85,8 +85,11 @@ unfolding placesOutside leaves
 tables-lie from end rows points schedules e =
     let all : any (leaves from end) (rows ∷ points ∷ schedules ∷ []) ≡ false = search facts in
     let lies : (k : ℕ) → k < 3 → leaves from end (getD (rows ∷ points ∷ schedules ∷ []) k rows) ≡ false =
-    λ k h. none-place (leaves from end) rows (rows ∷ points ∷ schedules ∷ []) k all h in
-    (table-lies from end rows (lies 0 (omega arith)), table-lies from end points (lies 1 (omega arith)), table-lies from end schedules (lies 2 (omega arith)))
+    λ k h. none-place (leaves from end) rows (rows ∷ points ∷ schedules ∷ []) k all h in (
+      table-lies from end rows (lies 0 (omega arith)),
+      table-lies from end points (lies 1 (omega arith)),
+      table-lies from end schedules (lies 2 (omega arith)),
+    )
   where
     table-lies : (from end : ℕ) (t : Table) → leaves from end t ≡ false → t .at + t .bytes ≤ end
     table-lies from end t e = stretch-lies from end (t .at) (t .bytes) e

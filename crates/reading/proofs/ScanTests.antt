@@ -1,5 +1,5 @@
--- What a walk over the rows of a file, their schedules and the points of these, which stops at the first fault, tells of
--- grounds 13, 18 and 14.
+-- What a walk over the rows of a file, their schedules and the points of these, which stops at the first fault,
+-- tells of grounds 13, 18 and 14.
 use Prim.Native.Nat.{ℕ, _+_, _≤_, _<_}
 use mathlib.Core.Path.{_≡_, refl, sym, ap, _∙_}
 use mathlib.Core.List.{List}
@@ -65,7 +65,7 @@ module _ (f : List ℕ) where
   abbrev pub rowFrom : (RowWords → Bool) → ℕ → Bool
   rowFrom ground i = any ground (wordsLeft f i)
 
-  -- a ground depends on the rows from i on, the first of which has the words w: on what it tells, or on the rows after it
+  -- a ground depends on the rows from i on: on what the first of them tells, which has the words w, or on those after it
   pub row-turn : (ground : RowWords → Bool) (i : ℕ) (w : RowWords) → w ≡ rowWordsAt f i → someRow ground ≡ rowFrom ground i
       → (told : Bool) → i < headerOf f .rowCount → ground w ≡ told → someRow ground ≡ (told || rowFrom ground (i + 1))
   row-turn ground i w here left told h e = any-turn ground told left (words-turn f i h) (ap ground (sym here) ∙ e)

@@ -104,7 +104,8 @@ module _ (f : List ℕ) (w : RowWords) (two : headerOf f .format ≡ curvesForma
       || (ltb 0 (w .dispatched) && leb (w .count) (w .dispatched)))
   unfolding schedulesOutside schedulesBeyond
   outside-is =
-      rw (length-table f w two, named-table f w two, in-schedules false (ltb 0 (w .count) && ltb (headerOf f .scheduleCount) (w .first + w .count)) two)
+      let place = ltb 0 (w .count) && ltb (headerOf f .scheduleCount) (w .first + w .count) in
+      rw (length-table f w two, named-table f w two, in-schedules false place two)
 
   -- a row without schedules is refused just where it was dispatched on another than 0
   pub none-dispatched : w .count ≡ 0 → schedulesOutside f w ≡ ltb 0 (w .dispatched)
@@ -126,7 +127,8 @@ module _ (f : List ℕ) (w : RowWords) (two : headerOf f .format ≡ curvesForma
       outside-is ∙ rw (lt-ltb 0 (w .dispatched) above, le-leb (w .count) (w .dispatched) h, or-true)
 
   -- schedules that reach beyond the table are refused, if there are any
-  pub schedules-beyond : 0 < w .count → ltb (headerOf f .scheduleCount) (w .first + w .count) ≡ true → schedulesOutside f w ≡ true
+  pub schedules-beyond : 0 < w .count → ltb (headerOf f .scheduleCount) (w .first + w .count) ≡ true
+      → schedulesOutside f w ≡ true
   schedules-beyond some h = outside-is ∙ rw (lt-ltb 0 (w .count) some, h)
 
   -- where number, place and the one dispatched on pass, the kinds decide

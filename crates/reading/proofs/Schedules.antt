@@ -45,19 +45,25 @@ module _ (f : List ℕ) (w : RowWords) where
   named-one same some = rw (eq-eqb (headerOf f .format) curvesFormat same, ne-eqb (w .count) 0 (λ e. omega arith))
 
   -- in format 2 it names those of the table
-  pub named-table : (headerOf f .format ≡ curvesFormat → ⊥) → schedulesNamed f w ≡ tableSchedules f (w .first) (w .count)
+  pub named-table : (headerOf f .format ≡ curvesFormat → ⊥)
+      → schedulesNamed f w ≡ tableSchedules f (w .first) (w .count)
   unfolding schedulesNamed
   named-table = in-schedules (asSchedule w) (tableSchedules f (w .first) (w .count))
 
   -- as many as it says
-  pub length-table : (headerOf f .format ≡ curvesFormat → ⊥) → length (schedulesNamed f w) ≡ w .count
+  table-long : length (tableSchedules f (w .first) (w .count)) ≡ w .count
   unfolding tableSchedules
-  length-table other =
-      ap length (named-table other)
-      ∙ length-entries scheduleBytes scheduleWords (w .count) (drop (headerOf f .schedulesOffset + scheduleBytes * w .first) f)
+  table-long =
+      let at = headerOf f .schedulesOffset + scheduleBytes * w .first in
+      length-entries scheduleBytes scheduleWords (w .count) (drop at f)
+
+  -- so many it names
+  pub length-table : (headerOf f .format ≡ curvesFormat → ⊥) → length (schedulesNamed f w) ≡ w .count
+  length-table other = ap length (named-table other) ∙ table-long
 
   -- in format 1 schedule k, if there is one, is that of its points
-  pub at-curves : headerOf f .format ≡ curvesFormat → (k : ℕ) → k < length (schedulesNamed f w) → scheduleAt f w k ≡ ownSchedule
+  pub at-curves : headerOf f .format ≡ curvesFormat → (k : ℕ) → k < length (schedulesNamed f w)
+      → scheduleAt f w k ≡ ownSchedule
   unfolding scheduleAt
   at-curves same k below = by (w .count) refl
     where
@@ -75,11 +81,10 @@ module _ (f : List ℕ) (w : RowWords) where
 
   -- and some where it is above 0
   pub named-something : 0 < w .count → 0 < length (schedulesNamed f w)
-  unfolding schedulesNamed asSchedule tableSchedules
+  unfolding schedulesNamed asSchedule
   named-something some =
-      let table = length-entries scheduleBytes scheduleWords (w .count) (drop (headerOf f .schedulesOffset + scheduleBytes * w .first) f) in
       let own : 0 < length (asSchedule w) = rw (ne-eqb (w .count) 0 (λ e. omega arith)) (omega arith) in
-      let listed : 0 < length (tableSchedules f (w .first) (w .count)) = omega (arith, table) in
+      let listed : 0 < length (tableSchedules f (w .first) (w .count)) = omega (arith, table-long) in
       in-either (λ (l : List ScheduleWords). 0 < length l) own listed (headerOf f .format)
 
   -- in format 2 schedule k stands in the table so many after the first
@@ -106,8 +111,8 @@ module _ (f : List ℕ) (w : RowWords) where
   none-left k beyond = drop-of-length-le (schedulesNamed f w) {i = k} beyond
 
 -- schedules that do not reach beyond the table end within it, if the rows name schedules and this one names any
-pub schedules-end : (h : Header) (w : RowWords) → (h .format ≡ curvesFormat → ⊥) → schedulesBeyond h w ≡ false → 0 < w .count
-    → w .first + w .count ≤ h .scheduleCount
+pub schedules-end : (h : Header) (w : RowWords) → (h .format ≡ curvesFormat → ⊥) → schedulesBeyond h w ≡ false
+    → 0 < w .count → w .first + w .count ≤ h .scheduleCount
 unfolding schedulesBeyond
 schedules-end h w other e some =
     ltb-false (h .scheduleCount) (w .first + w .count)

@@ -51,8 +51,8 @@ table-turn-at size read n at b i h =
     ∙ ap (λ part. read part ∷ entriesFrom size read n (drop at b) (i + 1)) (drop-drop (size * i) at b)
 
 -- where what is read passes no test wherever it stands, no entry of a table passes it
-pub no-entry : {A : Type 0} (size : ℕ) (read : List ℕ → A) (p : A → Bool) → ((b : List ℕ) → p (read b) ≡ false) → (n : ℕ) (b : List ℕ)
-    → any p (entries size read n b) ≡ false
+pub no-entry : {A : Type 0} (size : ℕ) (read : List ℕ → A) (p : A → Bool) → ((b : List ℕ) → p (read b) ≡ false)
+    → (n : ℕ) (b : List ℕ) → any p (entries size read n b) ≡ false
 unfolding any entries
 no-entry size read p never zero b = refl
 no-entry size read p never (suc n) b = rw (never b) (no-entry size read p never n (drop size b))
@@ -72,7 +72,8 @@ none-entry size read p (suc n) b (suc i) e h =
     ∙ none-entry size read p n (drop size b) i later (omega arith)
 
 -- where no member of a list passes a test, the one at k does not
-pub none-place : {A : Type 0} (p : A → Bool) (d : A) (xs : List A) (k : ℕ) → any p xs ≡ false → k < length xs → p (getD xs k d) ≡ false
+pub none-place : {A : Type 0} (p : A → Bool) (d : A) (xs : List A) (k : ℕ) → any p xs ≡ false → k < length xs
+    → p (getD xs k d) ≡ false
 unfolding any
 none-place p d [] k e h = absurd (omega arith)
 none-place p d (x ∷ xs) zero e h = not-first (p x) (any p xs) e

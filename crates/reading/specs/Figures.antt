@@ -253,8 +253,8 @@ offering ss ps =
     )
     ++ bytesOfWords 4 (wordsOfPoints ps)
 
--- a file of two rows that name one schedule: the one that the first was dispatched on, the second row's kind and the one that it
--- was dispatched on, and the number of points, of which there is one
+-- a file of one point, one schedule and two rows that name it: which one the first was dispatched on, the second row's
+-- kind and which one it was dispatched on, and the schedule's number of points
 unfoldable pub twoRows : ℕ → ℕ → ℕ → ℕ → List ℕ
 twoRows dispatched kind later points =
     bytesOfWords 4 (
@@ -427,27 +427,35 @@ rowGroundFigures =
     ∷ test (rowOutside (wordsWith 0 0 0 (pos 0) (pos 0) 0 0 0 0 0 (negsuc 1000000) 0 0 0)) gives 1
     ∷ []
 
+-- a point of nothing
+abbrev pub nothing : List Point
+nothing = at (pos 0) 0 ∷ []
+
+-- a file of five market schedules of one point
+abbrev pub fiveMarket : List ℕ
+fiveMarket = offering (replicate 5 (schedule 1 0 1)) nothing
+
 -- ground 18, at a bound and beyond it
 unfoldable pub scheduleGroundFigures : List Figure
 scheduleGroundFigures =
     -- at most 4 schedules
-    test (schedulesOutside (offering (replicate 5 (schedule 1 0 1)) (at (pos 0) 0 ∷ [])) (naming 0 4 0)) gives 0
-    ∷ test (schedulesOutside (offering (replicate 5 (schedule 1 0 1)) (at (pos 0) 0 ∷ [])) (naming 0 5 0)) gives 1
+    test (schedulesOutside fiveMarket (naming 0 4 0)) gives 0
+    ∷ test (schedulesOutside fiveMarket (naming 0 5 0)) gives 1
     -- within the table, of which the first is free where there are none
-    ∷ test (schedulesOutside (offering (replicate 5 (schedule 1 0 1)) (at (pos 0) 0 ∷ [])) (naming 2 3 0)) gives 0
-    ∷ test (schedulesOutside (offering (replicate 5 (schedule 1 0 1)) (at (pos 0) 0 ∷ [])) (naming 3 3 0)) gives 1
-    ∷ test (schedulesOutside (offering (replicate 5 (schedule 1 0 1)) (at (pos 0) 0 ∷ [])) (naming 4294967295 1 0)) gives 1
-    ∷ test (schedulesOutside (offering (replicate 5 (schedule 1 0 1)) (at (pos 0) 0 ∷ [])) (naming 4294967295 0 0)) gives 0
+    ∷ test (schedulesOutside fiveMarket (naming 2 3 0)) gives 0
+    ∷ test (schedulesOutside fiveMarket (naming 3 3 0)) gives 1
+    ∷ test (schedulesOutside fiveMarket (naming 4294967295 1 0)) gives 1
+    ∷ test (schedulesOutside fiveMarket (naming 4294967295 0 0)) gives 0
     -- dispatched on one of the row's own, counted from 0, or 0 where there are none
-    ∷ test (schedulesOutside (offering (replicate 5 (schedule 1 0 1)) (at (pos 0) 0 ∷ [])) (naming 3 2 1)) gives 0
-    ∷ test (schedulesOutside (offering (replicate 5 (schedule 1 0 1)) (at (pos 0) 0 ∷ [])) (naming 3 2 2)) gives 1
-    ∷ test (schedulesOutside (offering (replicate 5 (schedule 1 0 1)) (at (pos 0) 0 ∷ [])) (naming 3 2 4)) gives 1
-    ∷ test (schedulesOutside (offering (replicate 5 (schedule 1 0 1)) (at (pos 0) 0 ∷ [])) (naming 0 0 1)) gives 1
+    ∷ test (schedulesOutside fiveMarket (naming 3 2 1)) gives 0
+    ∷ test (schedulesOutside fiveMarket (naming 3 2 2)) gives 1
+    ∷ test (schedulesOutside fiveMarket (naming 3 2 4)) gives 1
+    ∷ test (schedulesOutside fiveMarket (naming 0 0 1)) gives 1
     -- of kinds 1 to 3, each that the row names
-    ∷ test (schedulesOutside (offering (schedule 1 0 1 ∷ schedule 2 0 1 ∷ schedule 3 0 1 ∷ []) (at (pos 0) 0 ∷ [])) (naming 0 3 0)) gives 0
-    ∷ test (schedulesOutside (offering (schedule 1 0 1 ∷ schedule 0 0 1 ∷ []) (at (pos 0) 0 ∷ [])) (naming 0 2 0)) gives 1
-    ∷ test (schedulesOutside (offering (schedule 1 0 1 ∷ schedule 4 0 1 ∷ []) (at (pos 0) 0 ∷ [])) (naming 0 2 0)) gives 1
-    ∷ test (schedulesOutside (offering (schedule 1 0 1 ∷ schedule 4 0 1 ∷ []) (at (pos 0) 0 ∷ [])) (naming 0 1 0)) gives 0
+    ∷ test (schedulesOutside (offering (schedule 1 0 1 ∷ schedule 2 0 1 ∷ schedule 3 0 1 ∷ []) nothing) (naming 0 3 0)) gives 0
+    ∷ test (schedulesOutside (offering (schedule 1 0 1 ∷ schedule 0 0 1 ∷ []) nothing) (naming 0 2 0)) gives 1
+    ∷ test (schedulesOutside (offering (schedule 1 0 1 ∷ schedule 4 0 1 ∷ []) nothing) (naming 0 2 0)) gives 1
+    ∷ test (schedulesOutside (offering (schedule 1 0 1 ∷ schedule 4 0 1 ∷ []) nothing) (naming 0 1 0)) gives 0
     -- a schedule without points is not refused here, nor is any row of format 1
     ∷ test (schedulesOutside (offering (schedule 1 0 0 ∷ []) []) (naming 0 1 0)) gives 0
     ∷ test (schedulesOutside (pointed []) (named 9 11)) gives 0

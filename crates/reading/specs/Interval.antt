@@ -149,8 +149,8 @@ pointOf b = record { price = signed (word32 b 0); kw = word32 b 1 }
 unfoldable pub pointAt : List ℕ → ℕ → Point
 pointAt b j = pointOf (drop (pointBytes * j) b)
 
--- the words of a row in document 01's order, words 2 to 9 in kW and the LMP in cents per MWh; the last three name its points,
--- or in format 2 its schedules and which of these it was dispatched on
+-- the words of a row in document 01's order, words 2 to 9 in kW and the LMP in cents per MWh; the last three name its
+-- points, or in format 2 its schedules and which of these it was dispatched on
 pub record RowWords : Type 0 where
   pub id : ℕ
   pub kind : ℕ
@@ -195,7 +195,8 @@ rowWordsAt f i = rowWords (headerOf f .format) (drop (headerOf f .rowsOffset + f
 -- the words of a file's rows, in its order
 unfoldable pub rowWordsOf : List ℕ → List RowWords
 rowWordsOf f =
-    entries (fileLayout f .rowBytes) (rowWords (headerOf f .format)) (headerOf f .rowCount) (drop (headerOf f .rowsOffset) f)
+    let h = headerOf f in
+    entries (fileLayout f .rowBytes) (rowWords (h .format)) (h .rowCount) (drop (h .rowsOffset) f)
 
 -- the words of a schedule: its kind, first point and number of points
 pub record ScheduleWords : Type 0 where
@@ -342,9 +343,10 @@ meet s t = overlap (s .at) (s .bytes) (t .at) (t .bytes)
 -- whether one of three tables leaves the bytes from one to another, or two of them share a byte
 unfoldable pub placesOutside : ℕ → ℕ → Table → Table → Table → Bool
 placesOutside from end rows points schedules =
-    any (leaves from end) (rows ∷ points ∷ schedules ∷ []) || meet rows points || meet rows schedules || meet points schedules
+    any (leaves from end) (rows ∷ points ∷ schedules ∷ [])
+    || meet rows points || meet rows schedules || meet points schedules
 
--- ground 11: the numbers of rows, points and schedules, or the place of their tables from the header's end to the file's
+-- ground 11: the numbers of rows, points and schedules, or the place of their tables, from the header's end on
 unfoldable pub tablesMisplaced : List ℕ → Bool
 tablesMisplaced f =
     let h = headerOf f in
@@ -371,7 +373,8 @@ schedulesBeyond h w = byFormat (h .format) false (ltb 0 (w .count) && ltb (h .sc
 unfoldable pub kindOutside : ScheduleWords → Bool
 kindOutside s = outside market cost (s .kind)
 
--- ground 18, of one row of a file: its schedules' place, number or kinds, or the one dispatched on, which is 0 or below their number
+-- ground 18, of one row of a file: the place, number or kinds of its schedules, or the one dispatched on, if not 0 and not
+-- below their number
 unfoldable pub schedulesOutside : List ℕ → RowWords → Bool
 schedulesOutside f w =
     let named = schedulesNamed f w in

@@ -51,7 +51,7 @@ pub const PRICE_BASED: u64 = 2;
 
 pub const COST: u64 = 3;
 
-// A row's words. The last three name its points in format 1, and in format 2 its schedules and which of them it was dispatched on.
+// A row's words. The last three name its points in format 1, in format 2 its schedules and the one that it was dispatched on.
 pub struct Row {
     pub id: u64,
     pub kind: u64,

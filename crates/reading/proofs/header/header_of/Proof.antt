@@ -41,21 +41,31 @@ number32-requires-7 : tie.Need-number32-requires-7
 number32-requires-7 c κs = omega (arith, long (c .before .before .before .before .before .before .before .before))
 
 number32-requires-8 : tie.Need-number32-requires-8
-number32-requires-8 c κs = omega (arith, long (c .before .before .before .before .before .before .before .before .before))
+number32-requires-8 c κs =
+    let e = c .before .before .before .before .before .before .before .before .before in
+    omega (arith, long (e))
 
 number32-requires-9 : tie.Need-number32-requires-9
-number32-requires-9 c κs = omega (arith, long (c .before .before .before .before .before .before .before .before .before .before))
+number32-requires-9 c κs =
+    let e = c .before .before .before .before .before .before .before .before .before in
+    omega (arith, long (e .before))
 
 number32-requires-10 : tie.Need-number32-requires-10
-number32-requires-10 c κs = omega (arith, long (c .before .before .before .before .before .before .before .before .before .before .before))
+number32-requires-10 c κs =
+    let e = c .before .before .before .before .before .before .before .before .before in
+    omega (arith, long (e .before .before))
 
 schedule-count-requires : tie.Need-schedule-count-requires
 unfolding headerOf word32
-schedule-count-requires c κs = format-read _ (c .before .before .before .before .before .before .before .before .before .before .number32 .ensures .0) (c .before .before .before .before .before .before .before .before .before .before .before .before .pre)
+schedule-count-requires c κs =
+    let e = c .before .before .before .before .before .before .before .before .before .before in
+    format-read _ (e .number32 .ensures .0) (e .before .before .pre)
 
 schedule-offset-requires : tie.Need-schedule-offset-requires
 unfolding headerOf word32
-schedule-offset-requires c κs = format-read _ (c .before .before .before .before .before .before .before .before .before .before .before .number32 .ensures .0) (c .before .before .before .before .before .before .before .before .before .before .before .before .before .pre)
+schedule-offset-requires c κs =
+    let e = c .before .before .before .before .before .before .before .before .before .before .before in
+    format-read _ (e .number32 .ensures .0) (e .before .before .pre)
 
 returns : tie.Need-returns
 unfolding headerIn headerOf word32
@@ -64,7 +74,8 @@ returns c =
     let w6 = w10 .before .before .before .before .before in
     let w5 = w6 .before in
     let imports = w10 .before .before .before .before .signed in
-    let sixth = signed-field (imports .result) (imports .ensures .0) (imports .ensures .1) (w6 .number326 .ensures .0) in
+    let word = w6 .number326 .ensures .0 in
+    let sixth = signed-field (imports .result) (imports .ensures .0) (imports .ensures .1) word in
     λ x. record {
       format = w5 .before .before .before .before .number32 .ensures .0 x;
       interval = w5 .before .before .before .number322 .ensures .0 x;

@@ -1,4 +1,4 @@
--- `reading::header::tables_misplaced` meets its contract. Each test of a number is one of the ground, and so is that of the places.
+-- `reading::header::tables_misplaced` meets its contract. Each test of a number, and that of the places, is one of the ground.
 use Prim.Native.Nat.{_*_, _≤_}
 use mathlib.Core.Path.{sym, ap, _∙_}
 use mathlib.Core.Bool.{Bool}

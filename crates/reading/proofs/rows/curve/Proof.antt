@@ -15,15 +15,21 @@ mul-at c = let s = c .before in omega (arith, points-end (s .args .h .points) (s
 
 add-at : tie.Need-add-at
 unfolding scheduleIn
-add-at c = let s = c .before .before in omega (arith, points-end (s .args .h .points) (scheduleIn (s .args .s)) (s .pre .1))
+add-at c =
+    let s = c .before .before in
+    omega (arith, points-end (s .args .h .points) (scheduleIn (s .args .s)) (s .pre .1))
 
 sub-result : tie.Need-sub-result
 unfolding scheduleIn
-sub-result c = let s = c .before .before in omega (arith, points-end (s .args .h .points) (scheduleIn (s .args .s)) (s .pre .1))
+sub-result c =
+    let s = c .before .before in
+    omega (arith, points-end (s .args .h .points) (scheduleIn (s .args .s)) (s .pre .1))
 
 part-result-start : tie.Need-part-result-start
 unfolding scheduleIn
-part-result-start c = let s = c .before .before in omega (arith, points-end (s .args .h .points) (scheduleIn (s .args .s)) (s .pre .1))
+part-result-start c =
+    let s = c .before .before in
+    omega (arith, points-end (s .args .h .points) (scheduleIn (s .args .s)) (s .pre .1))
 
 part-result-end : tie.Need-part-result-end
 part-result-end c = search needs

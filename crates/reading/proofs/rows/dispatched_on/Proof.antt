@@ -23,7 +23,8 @@ schedule-at-requires c κs =
     let s = c .before .before .before in
     let f = s .args .file .now in
     let w = rowIn (s .args .row) in
-    (s .pre .0, (schedules-lie f w (s .pre .1) (s .pre .0 .read), dispatched-among f w (s .pre .1) (named-something f w (omega arith))))
+    let among = dispatched-among f w (s .pre .1) (named-something f w (omega arith)) in
+    (s .pre .0, (schedules-lie f w (s .pre .1) (s .pre .0 .read), among))
 
 returns-2 : tie.Need-returns-2
 returns-2 c = search needs

@@ -40,34 +40,52 @@ signed-requires-2 : tie.Need-signed-requires-2
 signed-requires-2 c κs = search needs
 
 number32-requires-7 : tie.Need-number32-requires-7
-number32-requires-7 c κs = omega (arith, long (c .before .before .before .before .before .before .before .before .before))
+number32-requires-7 c κs =
+    let e = c .before .before .before .before .before .before .before .before .before in
+    omega (arith, long (e))
 
 number32-requires-8 : tie.Need-number32-requires-8
-number32-requires-8 c κs = omega (arith, long (c .before .before .before .before .before .before .before .before .before .before))
+number32-requires-8 c κs =
+    let e = c .before .before .before .before .before .before .before .before .before in
+    omega (arith, long (e .before))
 
 number32-requires-9 : tie.Need-number32-requires-9
-number32-requires-9 c κs = omega (arith, long (c .before .before .before .before .before .before .before .before .before .before .before))
+number32-requires-9 c κs =
+    let e = c .before .before .before .before .before .before .before .before .before in
+    omega (arith, long (e .before .before))
 
 number32-requires-10 : tie.Need-number32-requires-10
-number32-requires-10 c κs = omega (arith, long (c .before .before .before .before .before .before .before .before .before .before .before .before))
+number32-requires-10 c κs =
+    let e = c .before .before .before .before .before .before .before .before .before in
+    omega (arith, long (e .before .before .before))
 
 number32-requires-11 : tie.Need-number32-requires-11
-number32-requires-11 c κs = omega (arith, long (c .before .before .before .before .before .before .before .before .before .before .before .before .before))
+number32-requires-11 c κs =
+    let e = c .before .before .before .before .before .before .before .before .before in
+    omega (arith, long (e .before .before .before .before))
 
 number32-requires-12 : tie.Need-number32-requires-12
-number32-requires-12 c κs = omega (arith, long (c .before .before .before .before .before .before .before .before .before .before .before .before .before .before))
+number32-requires-12 c κs =
+    let e = c .before .before .before .before .before .before .before .before .before in
+    omega (arith, long (e .before .before .before .before .before))
 
 signed-requires-3 : tie.Need-signed-requires-3
 signed-requires-3 c κs = search needs
 
 number32-requires-13 : tie.Need-number32-requires-13
-number32-requires-13 c κs = omega (arith, long (c .before .before .before .before .before .before .before .before .before .before .before .before .before .before .before .before))
+number32-requires-13 c κs =
+    let e = c .before .before .before .before .before .before .before .before .before in
+    omega (arith, long (e .before .before .before .before .before .before .before))
 
 number32-requires-14 : tie.Need-number32-requires-14
-number32-requires-14 c κs = omega (arith, long (c .before .before .before .before .before .before .before .before .before .before .before .before .before .before .before .before .before))
+number32-requires-14 c κs =
+    let e = c .before .before .before .before .before .before .before .before .before in
+    omega (arith, long (e .before .before .before .before .before .before .before .before))
 
 dispatched-requires : tie.Need-dispatched-requires
-dispatched-requires c κs = c .before .before .before .before .before .before .before .before .before .before .before .before .before .before .before .before .before .before .pre
+dispatched-requires c κs =
+    let e = c .before .before .before .before .before .before .before .before .before in
+    e .before .before .before .before .before .before .before .before .before .pre
 
 returns : tie.Need-returns
 unfolding rowIn rowWords word32

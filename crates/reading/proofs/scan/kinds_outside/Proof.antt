@@ -42,7 +42,8 @@ returns c =
     let l = c .before .before .before .before in
     let s = l .before .before in
     let read = c .before .before .table-schedule in
-    let turn = kinds-turn (s .args .file .now) (s .args .first) (s .args .count) (headerIn (s .args .h)) (s .pre .0 .read .says) (l .loop .k) in
+    let says = s .pre .0 .read .says in
+    let turn = kinds-turn (s .args .file .now) (s .args .first) (s .args .count) (headerIn (s .args .h)) says (l .loop .k) in
     let told = kind-below (scheduleIn (read .result)) (omega arith) in
     sym (turn (scheduleIn (read .result)) (read .ensures) (l .loop .inv .1) (omega arith) true told)
 
@@ -52,7 +53,8 @@ returns-2 c =
     let l = c .before .before .before .before .before .before in
     let s = l .before .before in
     let read = c .before .before .before .before .table-schedule in
-    let turn = kinds-turn (s .args .file .now) (s .args .first) (s .args .count) (headerIn (s .args .h)) (s .pre .0 .read .says) (l .loop .k) in
+    let says = s .pre .0 .read .says in
+    let turn = kinds-turn (s .args .file .now) (s .args .first) (s .args .count) (headerIn (s .args .h)) says (l .loop .k) in
     let told = kind-above (scheduleIn (read .result)) (omega arith) in
     sym (turn (scheduleIn (read .result)) (read .ensures) (l .loop .inv .1) (omega arith) true told)
 
@@ -68,7 +70,8 @@ loop-again c =
     let l = c .before .before .before .before .before .before in
     let s = l .before .before in
     let read = c .before .before .before .before .table-schedule in
-    let turn = kinds-turn (s .args .file .now) (s .args .first) (s .args .count) (headerIn (s .args .h)) (s .pre .0 .read .says) (l .loop .k) in
+    let says = s .pre .0 .read .says in
+    let turn = kinds-turn (s .args .file .now) (s .args .first) (s .args .count) (headerIn (s .args .h)) says (l .loop .k) in
     let told = kind-within (scheduleIn (read .result)) (omega arith) (omega arith) in
     (omega arith, turn (scheduleIn (read .result)) (read .ensures) (l .loop .inv .1) (omega arith) false told)
 

@@ -1,4 +1,4 @@
--- `reading::scan::scan` meets its contract. Left to test are the rows from i on for ground 13, then those from m on for 18,
+-- `reading::scan::scan` meets its contract. Left to test are the rows from i on for ground 13, those from m on for 18,
 -- then for 14 those from n on, in row n the schedules from k on, and in schedule k the points from j on.
 use Prim.Native.Nat.{_+_, _-_, _≤_}
 use mathlib.Core.Path.{_≡_, refl, sym, ap, _∙_}
@@ -226,7 +226,8 @@ curve-misplaced-requires c κs = search needs
 curve-requires :
     tie.Need-curve-requires Inv-loop μ-loop Inv-loop2 μ-loop2 Inv-loop5 μ-loop5 Inv-loop4 μ-loop4 Inv-loop3 μ-loop3 Inv-scan μ-scan
 curve-requires c κs =
-    let s = c .before .before .before .before .before .before .before .before .before .before .before .before .before .before .before .before .before .before in
+    let e = c .before .before .before .before .before .before .before .before .before in
+    let s = e .before .before .before .before .before .before .before .before .before in
     (s .pre, sym (c .before .curve-misplaced .ensures) ∙ c .if5 .left)
 
 loop5-holds :
