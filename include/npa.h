@@ -30,9 +30,9 @@
 #include <stdint.h>
 
 /* The version of header and archive. */
-#define NPA_VERSION "1.6.0"
+#define NPA_VERSION "1.7.0"
 #define NPA_VERSION_MAJOR 1
-#define NPA_VERSION_MINOR 6
+#define NPA_VERSION_MINOR 7
 #define NPA_VERSION_PATCH 0
 
 /*
@@ -54,14 +54,16 @@
 extern "C" {
 #endif
 
-/* Word 0 of an opening block, an interval file and a ledger. */
+/* Word 0 of an opening block, an interval file and a ledger; and of an opening block that names its year. */
 #define NPA_FORMAT_1 1
+#define NPA_FORMAT_2 2
 
 /*
- * Sizes, in bytes. A block is a header and ids; a file a header, rows and points; a ledger a header and accounts; a
+ * Sizes, in bytes. A block is a header, which is longer in format 2, and ids; a file a header, rows and points; a ledger a header and accounts; a
  * result a header, which is the interval's words, and rows.
  */
 #define NPA_BLOCK_HEADER_BYTES 20
+#define NPA_BLOCK_2_HEADER_BYTES 24
 #define NPA_ID_BYTES 4
 #define NPA_FILE_HEADER_BYTES 40
 #define NPA_ROW_BYTES 56
@@ -95,6 +97,14 @@ extern "C" {
 #define NPA_BLOCK_MOST 4096
 #define NPA_FILE_MOST 49152
 
+/*
+ * The calendar year in which a delivery year starts, as an opening block of format 2 names it: the first, which has 365
+ * days, half the charge and half the limit, or one of the others from first to last.
+ */
+#define NPA_YEAR_TRANSITION 2016
+#define NPA_YEAR_FIRST 2018
+#define NPA_YEAR_LAST 2023
+
 /* The most cents per MW-day of Net CONE; kW of a row or point; kW of imports, either way; cents per MWh, either way. */
 #define NPA_NET_CONE_MOST 200000
 #define NPA_KW_MOST 4000000
@@ -117,7 +127,8 @@ enum npa_block_word {
     NPA_BLOCK_NET_CONE = 1, /* cents per MW-day */
     NPA_BLOCK_DAYS = 2,     /* 365 or 366 */
     NPA_BLOCK_IDS = 3,      /* how many */
-    NPA_BLOCK_IDS_AT = 4    /* offset in bytes */
+    NPA_BLOCK_IDS_AT = 4,   /* offset in bytes */
+    NPA_BLOCK_YEAR = 5      /* in format 2 alone */
 };
 
 enum npa_file_word {
@@ -173,7 +184,7 @@ enum npa_ledger_word {
     NPA_LEDGER_CARRIED = 4,     /* cents */
     NPA_LEDGER_ACCOUNTS = 5,    /* how many */
     NPA_LEDGER_ACCOUNTS_AT = 6, /* offset in words: 8 */
-    NPA_LEDGER_ZERO = 7
+    NPA_LEDGER_YEAR = 7         /* as the opening block named it, 0 if it named none */
 };
 
 /* Of an account in a ledger. */
@@ -217,6 +228,7 @@ enum npa_answer {
     NPA_REFUSED_ID_TABLE = 3,     /* no ids or too many, or some of them not inside the block */
     NPA_REFUSED_IDS = 4,          /* an id is 0, or not larger than the one before it */
     NPA_REFUSED_LEDGER_ROOM = 5,  /* ledger buffer too short for this many ids */
+    NPA_REFUSED_YEAR = 23,        /* format 2 names a year that is not settled here, or 2016 with 366 days */
 
     /* Settling. */
     NPA_REFUSED_LEDGER = 6,       /* ledger cut short or damaged, or its sums do not close */
@@ -237,11 +249,12 @@ enum npa_answer {
 };
 
 /*
- * Opens a ledger for the delivery year that the opening block describes. Answers NPA_OK or a refusal from 1 to 5.
+ * Opens a ledger for the delivery year that the opening block describes. Answers NPA_OK or a refusal from 1 to 5,
+ * or NPA_REFUSED_YEAR, which is tested after 2.
  *
  * block   is read.
  * ledger  needs NPA_LEDGER_BYTES(ids) bytes; what they held before does not matter. On NPA_OK all of them are
- *         written: the terms, no interval settled, no cents carried, and an account without sums for each id.
+ *         written: the terms with the year, no interval settled, no cents carried, and an account without sums for each id.
  */
 NPA_ANSWERS NPA_NOT_NULL
 uint32_t npa_open(const uint8_t *block, size_t block_len, uint8_t *ledger, size_t ledger_len);
@@ -379,6 +392,9 @@ static inline const char *npa_answer_text(uint32_t answer)
         return "the count buffer is too short";
     case NPA_REFUSED_LENGTH:
         return "the buffer of files ends within a length, or before the file that a length announces";
+    case NPA_REFUSED_YEAR:
+        return "the year of an opening block of format 2 is neither 2016 nor 2018 to 2023, or it is 2016 with 366 days; "
+               "tested after 2";
     default:
         return "no answer of the settlement module";
     }

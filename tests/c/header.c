@@ -140,7 +140,7 @@ static void settle(void)
     hold("ledger's carried", 0, npa_get64(ledger, NPA_LEDGER_CARRIED), 0);
     hold("accounts", 0, npa_get64(ledger, NPA_LEDGER_ACCOUNTS), ROWS);
     hold("offset of accounts", 0, 8 * npa_get64(ledger, NPA_LEDGER_ACCOUNTS_AT), NPA_LEDGER_HEADER_BYTES);
-    hold("last word of the ledger's header", 0, npa_get64(ledger, NPA_LEDGER_ZERO), 0);
+    hold("last word of the ledger's header", 0, npa_get64(ledger, NPA_LEDGER_YEAR), 0);
     hold("id of account", 0, npa_get64(ledger + NPA_ACCOUNT_AT(0), NPA_ACCOUNT_ID), 12);
     hold("id of account", 1, npa_get64(ledger + NPA_ACCOUNT_AT(1), NPA_ACCOUNT_ID), 14);
     hold_row(result, ledger, 0, 50000);
@@ -219,7 +219,7 @@ int main(int count, char **arguments)
     uint32_t answer;
     (void)arguments;
     if (count > 1) {
-        for (answer = NPA_REFUSED_BLOCK; answer <= NPA_REFUSED_LENGTH; answer++) {
+        for (answer = NPA_REFUSED_BLOCK; answer <= NPA_REFUSED_YEAR; answer++) {
             if (has_meaning(answer)) {
                 printf("| %u | %s |\n", (unsigned)answer, npa_answer_text(answer));
             }
@@ -229,7 +229,8 @@ int main(int count, char **arguments)
     hold("text of 0", 0, strcmp(npa_answer_text(NPA_OK), "accepted") == 0, 1);
     for (answer = NPA_OK; answer < 100; answer++) {
         hold("meaning of", answer, (uint64_t)has_meaning(answer),
-             answer <= NPA_REFUSED_POOL || answer == NPA_REFUSED_COUNT_ROOM || answer == NPA_REFUSED_LENGTH);
+             answer <= NPA_REFUSED_POOL || answer == NPA_REFUSED_COUNT_ROOM || answer == NPA_REFUSED_LENGTH ||
+                 answer == NPA_REFUSED_YEAR);
     }
     settle();
     event();

@@ -16,10 +16,6 @@
 #define NEEDED NPA_LEDGER_BYTES(IDS)
 #define BEYOND 40
 
-/* The word of a block with its year, and the ground of one that cannot be opened. */
-#define YEAR 5
-#define REFUSED_YEAR 23
-
 static const uint32_t LISTING[BLOCK_WORDS] = {1, 30000, 365, IDS, 20, 11, 12, 13, 14};
 static const uint32_t YEAR_LISTING[YEAR_BLOCK_WORDS] = {2, 30000, 365, IDS, 24, 2016, 11, 12, 13, 14};
 
@@ -52,7 +48,7 @@ static void open_years(void)
     open_listing(YEAR_LISTING, YEAR_BLOCK_LEN, 365, 2016);
     memcpy(words, YEAR_LISTING, sizeof words);
     for (year = 2018; year <= 2023; year++) {
-        words[YEAR] = year;
+        words[NPA_BLOCK_YEAR] = year;
         words[2] = 365;
         open_listing(words, YEAR_BLOCK_LEN, 365, year);
         words[2] = 366;
@@ -128,18 +124,18 @@ static const struct year_refusal YEAR_REFUSALS[] = {
     {2016, {NPA_REFUSED_ID_TABLE, 4, 20, YEAR_BLOCK_LEN, NEEDED}},
     {2016, {NPA_REFUSED_ID_TABLE, 4, 23, YEAR_BLOCK_LEN, NEEDED}},
     {2016, {NPA_REFUSED_ID_TABLE, 4, 25, YEAR_BLOCK_LEN, NEEDED}},
-    {0, {REFUSED_YEAR, 0, 2, YEAR_BLOCK_LEN, NEEDED}},
-    {2015, {REFUSED_YEAR, 0, 2, YEAR_BLOCK_LEN, NEEDED}},
-    {2017, {REFUSED_YEAR, 0, 2, YEAR_BLOCK_LEN, NEEDED}},
-    {2024, {REFUSED_YEAR, 0, 2, YEAR_BLOCK_LEN, NEEDED}},
-    {65536 + 2016, {REFUSED_YEAR, 0, 2, YEAR_BLOCK_LEN, NEEDED}},
-    {2016, {REFUSED_YEAR, 2, 366, YEAR_BLOCK_LEN, NEEDED}},
+    {0, {NPA_REFUSED_YEAR, 0, 2, YEAR_BLOCK_LEN, NEEDED}},
+    {2015, {NPA_REFUSED_YEAR, 0, 2, YEAR_BLOCK_LEN, NEEDED}},
+    {2017, {NPA_REFUSED_YEAR, 0, 2, YEAR_BLOCK_LEN, NEEDED}},
+    {2024, {NPA_REFUSED_YEAR, 0, 2, YEAR_BLOCK_LEN, NEEDED}},
+    {65536 + 2016, {NPA_REFUSED_YEAR, 0, 2, YEAR_BLOCK_LEN, NEEDED}},
+    {2016, {NPA_REFUSED_YEAR, 2, 366, YEAR_BLOCK_LEN, NEEDED}},
     /* Two faults: the year comes after the terms and before the ids. */
     {2017, {NPA_REFUSED_TERMS, 1, 0, YEAR_BLOCK_LEN, NEEDED}},
     {2016, {NPA_REFUSED_TERMS, 2, 367, YEAR_BLOCK_LEN, NEEDED}},
-    {2017, {REFUSED_YEAR, 3, 0, YEAR_BLOCK_LEN, NEEDED}},
-    {2017, {REFUSED_YEAR, 6, 0, YEAR_BLOCK_LEN, NEEDED}},
-    {2017, {REFUSED_YEAR, 0, 2, 24, 0}},
+    {2017, {NPA_REFUSED_YEAR, 3, 0, YEAR_BLOCK_LEN, NEEDED}},
+    {2017, {NPA_REFUSED_YEAR, 6, 0, YEAR_BLOCK_LEN, NEEDED}},
+    {2017, {NPA_REFUSED_YEAR, 0, 2, 24, 0}},
     {2016, {NPA_REFUSED_IDS, 6, 0, YEAR_BLOCK_LEN, 0}},
     {2016, {NPA_REFUSED_LEDGER_ROOM, 0, 2, YEAR_BLOCK_LEN, NEEDED - 1}},
 };
@@ -169,7 +165,7 @@ static void refuse_all(void)
     }
     for (i = 0; i < sizeof YEAR_REFUSALS / sizeof YEAR_REFUSALS[0]; i++) {
         memcpy(words, YEAR_LISTING, sizeof YEAR_LISTING);
-        words[YEAR] = YEAR_REFUSALS[i].year;
+        words[NPA_BLOCK_YEAR] = YEAR_REFUSALS[i].year;
         refuse("answer to refusal with a year", i, words, &YEAR_REFUSALS[i].refusal);
     }
 }

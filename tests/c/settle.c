@@ -219,9 +219,6 @@ static void refuse_word(const struct refusal *refusal)
     free(ledger);
 }
 
-/* The word of a ledger with its year. */
-#define YEAR 7
-
 /* Settles the listing's file in a year, of which the ledger keeps the word; plant 12 is charged so many cents. */
 static void settle_year(uint64_t year, uint64_t charge)
 {
@@ -229,12 +226,12 @@ static void settle_year(uint64_t year, uint64_t charge)
     uint8_t *file = bytes_of(LISTING, FILE_LEN);
     uint8_t *result = buffer(RESULT_LEN);
 
-    put_word(ledger, YEAR, year);
+    put_word(ledger, NPA_LEDGER_YEAR, year);
     hold("answer in the year", (size_t)year,
          npa_settle(ledger, LEDGER_LEN, file, FILE_LEN, result, RESULT_LEN), NPA_OK);
     hold("charge in the year", (size_t)year, word(result, 8 + 8 + 6), charge);
     hold("charges of the account in the year", (size_t)year, word(ledger, 8 + 4 + 2), charge);
-    hold("year kept", (size_t)year, word(ledger, YEAR), year);
+    hold("year kept", (size_t)year, word(ledger, NPA_LEDGER_YEAR), year);
     free(ledger);
     free(file);
     free(result);
@@ -258,14 +255,14 @@ static void years(void)
     }
     for (i = 0; i < sizeof OTHERS / sizeof OTHERS[0]; i++) {
         ledger = opened(30000, 365);
-        put_word(ledger, YEAR, OTHERS[i]);
+        put_word(ledger, NPA_LEDGER_YEAR, OTHERS[i]);
         refuse(ledger, LISTING, NPA_REFUSED_LEDGER);
         free(ledger);
     }
     memcpy(words, LISTING, sizeof words);
     words[NPA_FILE_DAYS] = 366;
     ledger = opened(30000, 366);
-    put_word(ledger, YEAR, 2016);
+    put_word(ledger, NPA_LEDGER_YEAR, 2016);
     refuse(ledger, words, NPA_REFUSED_LEDGER);
     free(ledger);
 }
@@ -290,7 +287,7 @@ static void limit_of_2016(void)
     const uint64_t limit = 410625000;
     uint8_t *ledger = opened(30000, 365);
 
-    put_word(ledger, YEAR, 2016);
+    put_word(ledger, NPA_LEDGER_YEAR, 2016);
     put_word(ledger, 8 + 4 + 1, 50000);
     put_word(ledger, 8 + 4 + 2, limit + 1);
     put_word(ledger, 4, limit + 1);

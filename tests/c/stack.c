@@ -113,7 +113,7 @@ int main(void)
     write_full_file(file, interval, interval);
     result_len = sizeof result - 1;
     settling = settled(settling, NPA_REFUSED_RESULT_ROOM);
-    npa_put64(ledger, NPA_LEDGER_ZERO, 1);
+    npa_put64(ledger, NPA_LEDGER_YEAR, 1);
     settling = settled(settling, NPA_REFUSED_LEDGER);
 
     printf("opening %lu, settling %lu, an event %lu of at most %lu bytes of stack\n", (unsigned long)opening,
