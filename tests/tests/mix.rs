@@ -249,6 +249,29 @@ fn small_cases_stay_small() {
     }
 }
 
+/// Names of what the charge of a shortfall shows.
+fn charge_features(terms: &Terms, shortfall: u64, charge: u64) -> Vec<&'static str> {
+    let (full, divisor) = (terms.full_charge(shortfall), terms.charge_divisor());
+    let rest = shortfall * terms.net_cone * terms.days % divisor;
+    let (whole, half) = (charge == full, divisor / 2);
+    let halved = terms.year == HALVED_YEAR.into();
+    let later = terms.year > HALVED_YEAR.into();
+    let notes = [
+        (charge < full && charge > 0, "charge cut"),
+        (charge == 0 && full > 0, "charge cut to nothing"),
+        (whole && rest > 0 && rest < half, "charge rounded down"),
+        (whole && rest > half, "charge rounded up"),
+        (whole && rest == half, "half a cent"),
+        (halved && whole && full > 0, "charge of 2016"),
+        (halved && charge < full, "charge of 2016 cut"),
+        (halved && whole && rest == half, "half a cent of 2016"),
+        (later && charge > 0, "charge of a later year"),
+        (terms.year == 0 && charge > 0, "charge of no year"),
+    ];
+    let there = notes.into_iter().filter(|(there, _)| *there);
+    there.map(|(_, name)| name).collect()
+}
+
 /// Names of what an accepted call shows.
 fn features(call: &SettleCall, result: &[u8]) -> Vec<&'static str> {
     let mut seen = Vec::new();
@@ -260,7 +283,6 @@ fn features(call: &SettleCall, result: &[u8]) -> Vec<&'static str> {
     let at = |offset: usize| word_at(&call.file, offset).unwrap();
     let interval = |index: usize| long_at(result, index).unwrap();
     let terms = Terms::of_ledger(&call.ledger).unwrap();
-    let divisor = terms.charge_divisor();
     let imports = at(20) as i32;
     note(interval(0) > 0 && interval(0) < 1_000_000, "ratio inside");
     note(interval(0) == 1_000_000, "ratio at its end");
@@ -326,21 +348,9 @@ fn features(call: &SettleCall, result: &[u8]) -> Vec<&'static str> {
             "any first point",
         );
         note(word(10) == 0 && count > 0 && kind == 0, "offline");
-        let full = terms.full_charge(figure(4));
-        note(figure(6) < full && figure(6) > 0, "charge cut");
-        note(figure(6) == 0 && full > 0, "charge cut to nothing");
-        let rest = figure(4) * terms.net_cone * terms.days % divisor;
-        let (whole, half) = (figure(6) == full, divisor / 2);
-        note(whole && rest > 0 && rest < half, "charge rounded down");
-        note(whole && rest > half, "charge rounded up");
-        note(whole && rest == half, "half a cent");
-        let halved = terms.year == HALVED_YEAR.into();
-        note(halved && whole && full > 0, "charge of 2016");
-        note(halved && figure(6) < full, "charge of 2016 cut");
-        note(halved && whole && rest == half, "half a cent of 2016");
-        let named = terms.year > HALVED_YEAR.into();
-        note(named && figure(6) > 0, "charge of a later year");
-        note(terms.year == 0 && figure(6) > 0, "charge of no year");
+        for name in charge_features(&terms, figure(4), figure(6)) {
+            note(true, name);
+        }
         for other in 0..row {
             let theirs = |index: usize| at(at(28) as usize + ROW_BYTES * other + 4 * index);
             let same = count > 0 && theirs(13) > 0 && theirs(12) == word(12);

@@ -16,6 +16,7 @@ use Rattle.words.specs.Grounds.{beyond}
 use Rattle.words.proofs.Ints.{never, plain}
 use Rattle.words.proofs.Tests.{lies-inside, lies-below, lies-above}
 use Rattle.reading.specs.Interval.{
+  Layout,
   layoutOf,
   pointBytes,
   scheduleBytes,
@@ -139,14 +140,15 @@ module _ (f : List ℕ) (h : Header) (says : h ≡ headerOf f) where
   unfolding tablesMisplaced
   schedules-many p = rw (← says, lt-ltb mostSchedules (h .scheduleCount) p, or-true)
 
-  -- with numbers in range, the places of the tables decide
-  pub places-left : 1 ≤ h .rowCount → h .rowCount ≤ mostRows → h .pointCount ≤ mostPoints → h .scheduleCount ≤ mostSchedules
+  -- with numbers in range, the places of the tables decide, by the sizes of the format
+  pub places-left : (l : Layout) → l ≡ layoutOf (h .format) → 1 ≤ h .rowCount → h .rowCount ≤ mostRows
+      → h .pointCount ≤ mostPoints → h .scheduleCount ≤ mostSchedules
       → tablesMisplaced f
-      ≡ placesOutside (layoutOf (h .format) .headerBytes) (length f)
-      (record { at = h .rowsOffset; bytes = layoutOf (h .format) .rowBytes * h .rowCount })
+      ≡ placesOutside (l .headerBytes) (length f)
+      (record { at = h .rowsOffset; bytes = l .rowBytes * h .rowCount })
       (record { at = h .pointsOffset; bytes = pointBytes * h .pointCount })
       (record { at = h .schedulesOffset; bytes = scheduleBytes * h .scheduleCount })
   unfolding tablesMisplaced
-  places-left low high points schedules =
+  places-left l sizes low high points schedules =
       let number = lies-inside 1 mostRows (h .rowCount) low high in
-      rw (← says, number, le-ltb mostPoints (h .pointCount) points, le-ltb mostSchedules (h .scheduleCount) schedules)
+      rw (sizes, ← says, number, le-ltb mostPoints (h .pointCount) points, le-ltb mostSchedules (h .scheduleCount) schedules)

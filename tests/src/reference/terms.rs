@@ -28,7 +28,7 @@ pub fn terms_hold(terms: Terms) -> bool {
     (1..=NET_CONE_MOST).contains(&terms.net_cone) && (terms.days == 365 || terms.days == 366)
 }
 
-/// The year is one that an opening can name, and 2016 has 365 days. The days of the others are not held to the calendar.
+/// The year is one that an opening can name, and 2016 has 365 days. No other year's days are held to the calendar.
 pub fn start_holds(year: Year) -> bool {
     match year.start {
         HALVED => year.terms.days == 365,

@@ -1,12 +1,9 @@
 -- `reading::header::tables_misplaced` meets its contract. Each test of a number, and that of the places, is one of the ground.
 use Prim.Native.Nat.{_*_, _≤_}
 use mathlib.Core.Path.{sym, ap, _∙_}
-use mathlib.Core.Bool.{Bool}
 use native.Mathlib.Nat.{mul-le-mul}
 use native.Mathlib.Omega.{arith}
 use borrow.Author.Needs.{needs}
-use lib.ListN.{length}
-use Rattle.reading.specs.Interval.{Layout, pointBytes, scheduleBytes, placesOutside}
 use Rattle.reading.specs.Values.{tableIn, layoutIn, headerIn}
 use Rattle.reading.proofs.Layouts.{row-most}
 use Rattle.reading.proofs.HeaderTests.{rows-none, rows-many, points-many, schedules-many, places-left}
@@ -64,15 +61,8 @@ unfolding layoutIn tableIn headerIn
 returns-5 c =
     let l = c .before .before .before .before .before in
     let s = l .before .before .before .before .before .before .before .before .before .before in
-    let f = s .args .file .now in
-    let h = s .args .h in
-    let places : Layout → Bool = λ l. placesOutside (l .headerBytes) (length f)
-    (record { at = h .«rows_at»; bytes = l .rowBytes * h .rows })
-    (record { at = h .«points_at»; bytes = pointBytes * h .points })
-    (record { at = h .«schedules_at»; bytes = scheduleBytes * h .schedules }) in
-    c .places-outside .ensures
-    ∙ ap places (l .layout-of .ensures)
-    ∙ sym (places-left f (headerIn h) (s .pre .says) (omega arith) (omega arith) (omega arith) (omega arith))
+    let places = places-left _ (headerIn (s .args .h)) (s .pre .says) (layoutIn (l .layout-of .result)) (l .layout-of .ensures) in
+    c .places-outside .ensures ∙ sym (places (omega arith) (omega arith) (omega arith) (omega arith))
 
 pub tables-misplaced-spec : {M : Type 1} → statement M
 tables-misplaced-spec =

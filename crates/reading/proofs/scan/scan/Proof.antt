@@ -202,8 +202,9 @@ loop4-holds c =
     let s = q .before .before .before .before .before .before .before .before .before in
     let f = s .args .file .now in
     let rows = row-count (s .pre .read) in
-    let row = c .before .row-at3 .ensures in
-    let turn = row-turn f (pointsOutside f) (q .loop3 .n) _ row (q .loop3 .inv .3) _ in
+    let row = c .before .row-at3 in
+    let w = rowIn (row .result) in
+    let turn = row-turn f (pointsOutside f) (q .loop3 .n) w (row .ensures) (q .loop3 .inv .3) (pointsOutside f w) in
     (omega arith, turn (omega (arith, rows)) refl)
 
 schedule-at-requires :
