@@ -119,7 +119,7 @@ module _ (r : Row) where
       placed : (s : Schedule) (d : ℕ) → r .schedules ≡ s ∷ [] → r .dispatched ≡ d → economicScheduled r ≡ scheduled r
       placed s zero e d =
           let on : dispatchedOn r ≡ s ∷ [] = ap₂ (λ d ss. take 1 (drop d ss)) d e in
-          let all : highest (s .kind) r (r .schedules) ≡ max (countedFor (s .kind) r s) 0 = ap (highest (s .kind) r) e in
+          let all = ap (highest (s .kind) r) e in
           omega (arith, economic-on s on, scheduled-on s on, all, counted-le (s .kind) r s)
       placed s (suc n) e d = on-none (ap₂ (λ d ss. take 1 (drop d ss)) d e ∙ ap (take 1) (drop-nil n))
 
@@ -160,11 +160,13 @@ module _ (on : ℕ) (r : Row) (s : Schedule) where
 -- a sound row of a file
 module _ {f : List ℕ} {w : RowWords} (s : Sound f w) where
   -- each schedule that is read of it has its points in order
-  pub read-sound : {k : ℕ} → k < length (schedulesNamed f w) → {v : ScheduleWords} → v ≡ scheduleAt f w k → SoundCurve f v
+  pub read-sound : {k : ℕ} → k < length (schedulesNamed f w) → {v : ScheduleWords} → v ≡ scheduleAt f w k
+      → SoundCurve f v
   read-sound {k} below e = subst (SoundCurve f) (sym e) (schedule-sound s k below)
 
   -- where the one dispatched on has no points, there is none
-  pub on-nothing : {v : ScheduleWords} → v ≡ scheduleAt f w (w .dispatched) → v .count ≡ 0 → dispatchedOn (rowOf f w) ≡ []
+  pub on-nothing : {v : ScheduleWords} → v ≡ scheduleAt f w (w .dispatched) → v .count ≡ 0
+      → dispatchedOn (rowOf f w) ≡ []
   unfolding dispatchedOn
   on-nothing e none =
       let d = rowOf f w .dispatched in
@@ -182,8 +184,8 @@ module _ {f : List ℕ} {w : RowWords} (s : Sound f w) where
       above zero some = absurd (some refl)
       above (suc n) some = omega arith
 
--- before schedule k of a row dispatched on one of a kind: the highest so far, with what those left count, is what the economic rule takes,
--- and it is no less than the row's own
+-- before schedule k of a row dispatched on one of a kind: the highest so far, with what those left count,
+-- is what the economic rule takes, and it is no less than the row's own
 pub record Highest (r : Row) (on k most : ℕ) : Type 0 where
   pub rest : max most (highest on r (drop k (r .schedules))) ≡ economicScheduled r
   pub own : scheduled r ≤ most
@@ -192,7 +194,8 @@ pub record Highest (r : Row) (on k most : ℕ) : Type 0 where
 module _ (f : List ℕ) (w : RowWords) where
   -- what schedule k counts is taken, if it is higher
   pub highest-turn : {on k most more : ℕ} → Highest (rowOf f w) on k most → k < length (schedulesNamed f w)
-      → more ≡ countedFor on (rowOf f w) (scheduleOf f (scheduleAt f w k)) → Highest (rowOf f w) on (k + 1) (max most more)
+      → more ≡ countedFor on (rowOf f w) (scheduleOf f (scheduleAt f w k))
+      → Highest (rowOf f w) on (k + 1) (max most more)
   unfolding highest
   highest-turn {on} {k} h below is =
       let next = ap (highest on (rowOf f w)) (next-schedule f w k below) in
@@ -238,7 +241,8 @@ module _ (f : List ℕ) (w : RowWords) (among : w .dispatched < length (schedule
       record { rest = omega (arith, is, takes, all); own = omega (arith, is) }
 
   -- it need not be taken once more
-  pub highest-skip : {on k most : ℕ} → Highest (rowOf f w) on k most → k ≡ w .dispatched → Highest (rowOf f w) on (k + 1) most
+  pub highest-skip : {on k most : ℕ} → Highest (rowOf f w) on k most → k ≡ w .dispatched
+      → Highest (rowOf f w) on (k + 1) most
   unfolding highest
   highest-skip {on} {k} h e =
       let s = scheduleOf f (scheduleAt f w k) in

@@ -15,7 +15,8 @@ economicByCut r expect = min (r .maximum) (min expect (available r)) - max (bonu
 -- at any ratio that gives the same kW where a row has one schedule or none, as each of format 1 has:
 -- no word of its result shows which of the two the economic rule takes
 unfoldable pub SameEconomic : Type 0
-SameEconomic = (q : Ratio) (r : Row) → length (r .schedules) ≤ 1 → economicByCut r (expected q r) ≡ economicRule r (expected q r)
+SameEconomic =
+    (q : Ratio) (r : Row) → length (r .schedules) ≤ 1 → economicByCut r (expected q r) ≡ economicRule r (expected q r)
 
 -- the tariff's part of Net CONE, in hundredths: 0.75 for 2016, 1.5 for other years
 unfoldable pub hundredths : Terms → ℕ

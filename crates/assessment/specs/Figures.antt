@@ -50,7 +50,8 @@ abbrev pub marketOffer : List Point → List Schedule
 marketOffer [] = []
 marketOffer (p ∷ ps) = record { kind = market; curve = p ∷ ps } ∷ []
 
--- a row of id 1: kind, committed, owned, metered, adjustment, planned, forced, maximum, minimum, online, LMP and the points of its market offer
+-- a row of id 1: kind, committed, owned, metered, adjustment, planned, forced, maximum, minimum, online, LMP
+-- and the points of its market offer
 abbrev pub adjusted : ℕ → ℕ → ℕ → ℤ → ℤ → ℕ → ℕ → ℕ → ℕ → ℕ → ℤ → List Point → Row
 adjusted kind committed owned metered adjustment planned forced maximum minimum online lmp curve = record {
   id = 1;
@@ -230,6 +231,10 @@ giving kind kw = record { kind = kind; curve = at (pos 3000) kw ∷ [] }
 abbrev pub ofEach : ℕ → ℕ → ℕ → List Schedule
 ofEach byMarket byPLS byCost = giving market byMarket ∷ giving priceBased byPLS ∷ giving cost byCost ∷ []
 
+-- a market offer above the cost one: fewer kW are scheduled by it
+abbrev pub marketAboveCost : List Schedule
+marketAboveCost = giving market 60000 ∷ giving cost 90000 ∷ []
+
 -- a row of a kind at that LMP that committed 100000 kW, owns 110000 and metered so many, with schedules
 abbrev pub unit : ℕ → ℤ → List Schedule → ℕ → Row
 unit kind metered schedules dispatched =
@@ -239,7 +244,9 @@ unit kind metered schedules dispatched =
 abbrev pub marketLater : ℕ → ℕ → Row
 marketLater online dispatched =
     offering
-    (record { kind = market; curve = at (pos 2000) 30000 ∷ at (pos 6000) 90000 ∷ [] } ∷ record { kind = cost; curve = curveA } ∷ [])
+    (record { kind = market; curve = at (pos 2000) 30000 ∷ at (pos 6000) 90000 ∷ [] }
+    ∷ record { kind = cost; curve = curveA }
+    ∷ [])
     dispatched
     (row 0 0 0 (pos 0) 0 0 110000 20000 online (pos 1500) [])
 
@@ -306,7 +313,7 @@ workedFigures =
     ∷ economicScheduled (unit 0 (pos 0) (ofEach 60000 90000 70000) 2) gives 70000
     -- others of the same kind count too, but on cost
     ∷ economicScheduled (unit 0 (pos 0) (giving market 60000 ∷ giving market 70000 ∷ []) 0) gives 70000
-    ∷ economicScheduled (unit 0 (pos 0) (giving priceBased 60000 ∷ giving market 90000 ∷ giving priceBased 70000 ∷ []) 0) gives 70000
+    ∷ economicScheduled (unit 0 (pos 0) (giving priceBased 60000 ∷ giving priceBased 70000 ∷ []) 0) gives 70000
     ∷ economicScheduled (unit 0 (pos 0) (giving cost 60000 ∷ giving cost 90000 ∷ []) 0) gives 60000
     ∷ economicScheduled (unit 0 (pos 0) (giving cost 60000 ∷ giving cost 90000 ∷ []) 1) gives 90000
     -- a schedule that stands alone is taken whatever its kind
@@ -317,15 +324,15 @@ workedFigures =
     ∷ bonusCut (unit 0 (pos 0) (ofEach 60000 70000 90000) 1) gives 70000
     ∷ bonusCut (unit 4 (pos 0) (ofEach 60000 70000 90000) 2) gives 90000
     ∷ bonus (unit 0 (pos 80000) (ofEach 60000 70000 90000) 0) 50000 gives 10000
-    -- each schedule goes by the row's LMP, limits and online word: below the first price the minimum, offline 0, on curve A 30000
+    -- each schedule goes by the row's LMP, limits and online word: below the first price the minimum, or 0 offline
     ∷ bonusCut (marketLater 1 0) gives 20000
     ∷ bonusCut (marketLater 0 0) gives 0
     ∷ economicScheduled (marketLater 1 0) gives 30000
     ∷ economicScheduled (marketLater 0 0) gives 30000
     ∷ economicScheduled (marketLater 0 1) gives 30000
-    -- so a market offer above the cost one excuses no more than the cost one does: of 100000 kW expected 10000, not 40000
-    ∷ rowFigures 0 (over 1 1) (unit 0 (pos 50000) (giving market 60000 ∷ giving cost 90000 ∷ []) 0) .economic gives 10000
-    ∷ rowFigures 0 (over 1 1) (unit 0 (pos 50000) (giving market 60000 ∷ giving cost 90000 ∷ []) 0) .shortfall gives 40000
+    -- so a market offer above the cost one excuses no more than that: of 100000 kW expected 10000, not 40000
+    ∷ rowFigures 0 (over 1 1) (unit 0 (pos 50000) marketAboveCost 0) .economic gives 10000
+    ∷ rowFigures 0 (over 1 1) (unit 0 (pos 50000) marketAboveCost 0) .shortfall gives 40000
     ∷ rowFigures 0 (over 1 1) (unit 0 (pos 50000) (giving market 60000 ∷ []) 0) .economic gives 40000
     -- PRD goes by the schedule that it was dispatched on
     ∷ test (considered 0 (prdOfTwo 0)) gives 0

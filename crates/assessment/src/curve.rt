@@ -91,7 +91,7 @@ fn on_curve(points: &[u8], n: usize, lmp: i64) -> Kilowatts
 
 // The economic minimum if online, else 0.
 fn minimum_online(row: Row) -> Kilowatts
-    ensures { λ r. ⌜ ((schedules : List Schedule) → r .0 ≡ minimumOnline (rowWith (rowIn row) schedules)) ⌝ }
+    ensures { λ r. ⌜ ((ss : List Schedule) → r .0 ≡ minimumOnline (rowWith (rowIn row) ss)) ⌝ }
 {
     if row.online == 1 {
         return Kilowatts(row.minimum);
@@ -103,7 +103,8 @@ fn minimum_online(row: Row) -> Kilowatts
 pub fn scheduled(row: Row, points: &[u8], n: usize) -> Kilowatts
     requires { ⌜ 0 < n ⌝ }
     requires { ⌜ pointBytes * n ≤ length (now points) ⌝ }
-    ensures { λ r. ⌜ ((schedules : List Schedule) → r .0 ≡ scheduledBy (pointsIn n (now (points .entry))) (rowWith (rowIn row) schedules)) ⌝ }
+    ensures { λ r. ⌜ ((ss : List Schedule) →
+        r .0 ≡ scheduledBy (pointsIn n (now (points .entry))) (rowWith (rowIn row) ss)) ⌝ }
 {
     let lmp = row.lmp;
     let least = minimum_online(row);

@@ -1,4 +1,4 @@
-// What a row's schedules say at its LMP: to what a bonus is cut, what the economic rule takes, and whether a row is considered.
+// What a row's schedules say at its LMP: what a bonus is cut to, what the economic rule takes, whether PRD is considered.
 
 use crate::curve::consumes;
 use crate::curve::scheduled;
@@ -52,7 +52,7 @@ pub struct Offer {
 // Owned kW without both outages.
 pub fn available(row: Row) -> Kilowatts
     requires { ⌜ rowOutside (rowIn row) ≡ false ⌝ }
-    ensures { λ r. ⌜ ((schedules : List Schedule) → r .0 ≡ availableOf (rowWith (rowIn row) schedules)) ⌝ }
+    ensures { λ r. ⌜ ((ss : List Schedule) → r .0 ≡ availableOf (rowWith (rowIn row) ss)) ⌝ }
 {
     let out = Kilowatts(row.planned).plus(Kilowatts(row.forced));
     Kilowatts(row.owned).less(out)
@@ -109,7 +109,7 @@ fn highest(file: &[u8], h: Header, row: Row, on: u64, own: Kilowatts) -> Kilowat
     most
 }
 
-// A row's offer: bonus is cut to the scheduled kW of the schedule dispatched on, and the economic rule takes the highest.
+// A row's offer: bonus is cut to the kW of the schedule dispatched on, and the economic rule takes the highest.
 // Without schedules, bonus is cut to what is available, and the economic rule takes the committed kW.
 pub fn offered(file: &[u8], h: Header, row: Row) -> Offer
     requires { ⌜ Tabled (now file) h ⌝ }

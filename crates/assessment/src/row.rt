@@ -43,7 +43,7 @@ pub struct Figures {
 // Actual: metered plus adjustment, or 0 if that is negative.
 fn actual(row: Row) -> Kilowatts
     requires { ⌜ rowOutside (rowIn row) ≡ false ⌝ }
-    ensures { λ r. ⌜ ((schedules : List Schedule) → r .0 ≡ actualOf (rowWith (rowIn row) schedules)) ⌝ }
+    ensures { λ r. ⌜ ((ss : List Schedule) → r .0 ≡ actualOf (rowWith (rowIn row) ss)) ⌝ }
     ensures { λ r. ⌜ r .0 ≤ mostActual ⌝ }
 {
     Kilowatts::or_none(row.metered + row.adjustment)
@@ -53,7 +53,7 @@ fn actual(row: Row) -> Kilowatts
 fn expected(row: Row, ratio: Ratio) -> Kilowatts
     requires { ⌜ rowOutside (rowIn row) ≡ false ⌝ }
     requires { ⌜ ratio .numerator .0 ≤ mostNumerator ⌝ }
-    ensures { λ r. ⌜ ((schedules : List Schedule) → r .0 ≡ expectedOf (ratioIn ratio) (rowWith (rowIn row) schedules)) ⌝ }
+    ensures { λ r. ⌜ ((ss : List Schedule) → r .0 ≡ expectedOf (ratioIn ratio) (rowWith (rowIn row) ss)) ⌝ }
 {
     let kind = row.kind;
     match kind {
@@ -190,7 +190,7 @@ pub fn numerator_share(file: &[u8], h: Header, row: Row) -> Kilowatts
 // What a row adds to the denominator, by the kind word.
 pub fn denominator_share(row: Row) -> Kilowatts
     requires { ⌜ rowOutside (rowIn row) ≡ false ⌝ }
-    ensures { λ r. ⌜ ((schedules : List Schedule) → r .0 ≡ denominatorShare (rowWith (rowIn row) schedules)) ⌝ }
+    ensures { λ r. ⌜ ((ss : List Schedule) → r .0 ≡ denominatorShare (rowWith (rowIn row) ss)) ⌝ }
     ensures { λ r. ⌜ r .0 ≤ mostKilowatts ⌝ }
 {
     let kind = row.kind;

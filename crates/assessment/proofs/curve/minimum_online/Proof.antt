@@ -8,11 +8,11 @@ use Rattle.assessment.proofs.curve.minimum_online.Tie as tie
 
 returns : tie.Need-returns
 unfolding minimumOnline rowWith rowIn
-returns c schedules = rw (eq-eqb (c .before .before .args .row .online) 1 (c .if1 .taken))
+returns c ss = rw (eq-eqb (c .before .before .args .row .online) 1 (c .if1 .taken))
 
 returns-2 : tie.Need-returns-2
 unfolding minimumOnline rowWith rowIn
-returns-2 c schedules = rw (ne-eqb (c .before .before .args .row .online) 1 (c .if1 .left))
+returns-2 c ss = rw (ne-eqb (c .before .before .args .row .online) 1 (c .if1 .left))
 
 pub minimum-online-spec : {M : Type 1} → statement M
 minimum-online-spec = tie.close (tie.spec returns returns-2)

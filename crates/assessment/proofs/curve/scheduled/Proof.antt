@@ -22,7 +22,7 @@ use Rattle.assessment.proofs.curve.scheduled.Tie as tie
 
 -- the row, with any schedules
 abbrev row : tie.Start → List Schedule → Row
-row c schedules = rowWith (rowIn (c .args .row)) schedules
+row c ss = rowWith (rowIn (c .args .row)) ss
 
 -- the LMP, read back from its bits
 lmp-is : (c : tie.After-struct-told) → let a = c .before .before .args in
@@ -54,12 +54,12 @@ point-at-requires c κs = search needs
 
 returns : tie.Need-returns
 unfolding rowWith rowIn
-returns c schedules =
+returns c ss =
     let p = c .before .before .before in
     let m = p .before in
     let s = m .before .before .before in
-    let r = row s schedules in
-    m .minimum-online .ensures schedules ∙ scheduled-below _ _ r (s .pre .0) (below p (c .if1 .taken))
+    let r = row s ss in
+    m .minimum-online .ensures ss ∙ scheduled-below _ _ r (s .pre .0) (below p (c .if1 .taken))
 
 sub-point-at : tie.Need-sub-point-at
 sub-point-at c = search needs
@@ -69,11 +69,11 @@ point-at-requires-2 c κs = search needs
 
 returns-2 : tie.Need-returns-2
 unfolding rowWith rowIn
-returns-2 c schedules =
+returns-2 c ss =
     let q = c .before .before .before in
     let p = q .before .before .before .before in
     let s = p .before .before .before .before in
-    let r = row s schedules in
+    let r = row s ss in
     scheduled-above _ _ r (s .pre .0) (below p (q .before .if1 .left)) (above q (c .if2 .taken))
 
 on-curve-requires : tie.Need-on-curve-requires
@@ -87,15 +87,15 @@ lesser-requires c κs = search needs
 
 returns-3 : tie.Need-returns-3
 unfolding rowWith rowIn
-returns-3 c schedules =
+returns-3 c ss =
     let t = c .before .before .before in
     let q = t .before .before .before in
     let p = q .before .before .before .before in
     let m = p .before in
     let s = m .before .before .before in
-    let r = row s schedules in
+    let r = row s ss in
     let kw = rw (lmp-is (m .before)) at (c .before .before .on-curve .ensures) in
-    let least = m .minimum-online .ensures schedules in
+    let least = m .minimum-online .ensures ss in
     c .lesser .ensures
     ∙ ap (λ x. min x (r .maximum)) (c .before .greater .ensures)
     ∙ scheduled-along _ _ r (s .pre .0) (below p (q .before .if1 .left)) (above q (t .if2 .left)) _ _ kw least

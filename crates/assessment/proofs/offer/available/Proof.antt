@@ -20,7 +20,7 @@ less-requires c κs = search needs
 
 returns : tie.Need-returns
 unfolding available rowWith rowIn
-returns c schedules = c .less .ensures ∙ ap (λ out. c .before .before .args .row .owned - out) (c .before .plus .ensures)
+returns c ss = c .less .ensures ∙ ap (λ out. c .before .before .args .row .owned - out) (c .before .plus .ensures)
 
 pub available-spec : {M : Type 1} → statement M
 available-spec = tie.close (tie.spec plus-requires less-requires returns)

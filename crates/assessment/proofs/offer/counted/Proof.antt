@@ -1,4 +1,4 @@
--- `assessment::offer::counted` meets its contract. The part of the file that `curve` hands out holds the curve of schedule k.
+-- `assessment::offer::counted` meets its contract. What `curve` hands out holds the curve of schedule k.
 use Prim.Native.Nat.{_<_}
 use mathlib.Core.Path.{_≡_, sym, ap, _∙_}
 use native.Mathlib.Omega.{arith}
@@ -29,7 +29,8 @@ looks-at-requires : tie.Need-looks-at-requires
 looks-at-requires c κs = search needs
 
 -- its points are in order
-sound : (c : tie.After-schedule-at) → SoundCurve (c .before .before .args .file .now) (scheduleIn (c .schedule-at .result))
+sound : (c : tie.After-schedule-at)
+    → SoundCurve (c .before .before .args .file .now) (scheduleIn (c .schedule-at .result))
 sound c = let s = c .before .before in read-sound (s .pre .1 .0) (s .pre .1 .1) (c .schedule-at .ensures)
 
 curve-requires : tie.Need-curve-requires
@@ -53,9 +54,10 @@ returns c =
     let v = scheduleIn (k .schedule-at .result) in
     let curve = curve-is f v (part .curve .ensures .0) ∙ ap (curveOf f) (k .schedule-at .ensures) in
     let kind = ap (λ v. looksAt (s .args .on) (v .kind)) (k .schedule-at .ensures) in
+    let looked = sym kind ∙ sym (t .before .looks-at .ensures) ∙ t .if1 .taken in
     c .scheduled .ensures (row s .schedules)
     ∙ ap (λ ps. scheduledBy ps (row s)) curve
-    ∙ counted-yes (s .args .on) (row s) (scheduleOf f (schedule s)) (sym kind ∙ sym (t .before .looks-at .ensures) ∙ t .if1 .taken)
+    ∙ counted-yes (s .args .on) (row s) (scheduleOf f (schedule s)) looked
 
 returns-2 : tie.Need-returns-2
 unfolding scheduleOf scheduleIn

@@ -49,7 +49,8 @@ loop-holds : tie.Need-loop-holds Inv-loop μ-loop
 unfolding rowIn
 loop-holds c =
     let s = c .before .before .before in
-    highest-start (s .args .file .now) (rowIn (s .args .row)) (s .pre .1 .1 .0) (s .pre .1 .1 .1 .0) (s .pre .1 .1 .1 .1)
+    let (among, (kind, own)) = s .pre .1 .1 in
+    highest-start (s .args .file .now) (rowIn (s .args .row)) among kind own
 
 counted-requires : tie.Need-counted-requires Inv-loop μ-loop
 counted-requires c κs =
@@ -78,9 +79,10 @@ loop-again c =
     let w = rowIn (s .args .row) in
     let after = Highest (rowOf f w) (s .args .on) (l .loop .k + 1) in
     let below : l .loop .k < length (schedulesNamed f w) = omega (arith, count-is n, t .loop-test .taken) in
+    let inv = l .loop .inv in
     ⊎-elim
-    (λ x. subst after (sym (ap (λ m. m .0) (x .3) ∙ x .2 .ensures)) (highest-turn f w (l .loop .inv) below (x .1 .ensures)))
-    (λ x. subst after (sym (ap (λ m. m .0) (x .1))) (highest-skip f w (s .pre .1 .1 .0) (l .loop .inv) (x .0 .left)))
+    (λ x. subst after (sym (ap (λ m. m .0) (x .3) ∙ x .2 .ensures)) (highest-turn f w inv below (x .1 .ensures)))
+    (λ x. subst after (sym (ap (λ m. m .0) (x .1))) (highest-skip f w (s .pre .1 .1 .0) inv (x .0 .left)))
     (c .if2 .came)
 
 returns-2 : tie.Need-returns-2 Inv-loop μ-loop
@@ -88,7 +90,9 @@ returns-2 c =
     let l = c .before in
     let n = l .before .before in
     let s = n .before .before in
-    highest-end (s .args .file .now) (rowIn (s .args .row)) (l .loop .inv) (omega (arith, count-is n, c .loop-test .left))
+    let f = s .args .file .now in
+    let w = rowIn (s .args .row) in
+    highest-end f w (l .loop .inv) (omega (arith, count-is n, c .loop-test .left))
 
 pub highest-spec : {M : Type 1} → statement M
 highest-spec =

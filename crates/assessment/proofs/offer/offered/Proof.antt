@@ -1,4 +1,4 @@
--- `assessment::offer::offered` meets its contract. The part of the file that `curve` hands out holds the curve dispatched on.
+-- `assessment::offer::offered` meets its contract. What `curve` hands out holds the curve dispatched on.
 use Prim.Native.Nat.{_<_}
 use mathlib.Core.Path.{_≡_, ap, _∙_}
 use borrow.Author.Needs.{needs}
@@ -51,7 +51,9 @@ among c =
 sound : (c : tie.Else1) → let d = c .before .before in
     SoundCurve (d .before .before .before .args .file .now) (scheduleIn (d .dispatched-on .result))
 unfolding rowIn
-sound c = let d = c .before .before in read-sound (d .before .before .before .pre .1) (among c) (d .dispatched-on .ensures)
+sound c =
+    let d = c .before .before in
+    read-sound (d .before .before .before .pre .1) (among c) (d .dispatched-on .ensures)
 
 curve-requires : tie.Need-curve-requires
 curve-requires c κs =

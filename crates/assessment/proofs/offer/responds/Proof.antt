@@ -1,4 +1,4 @@
--- `assessment::offer::responds` meets its contract. The part of the file that `curve` hands out holds the curve dispatched on.
+-- `assessment::offer::responds` meets its contract. What `curve` hands out holds the curve dispatched on.
 use Prim.Native.Nat.{_<_}
 use mathlib.Core.Path.{sym, ap, _∙_}
 use mathlib.Core.List.{[]}
@@ -59,7 +59,9 @@ returns-2 c =
     let lmp = s .args .row .lmp in
     let small = sound-in (s .pre .1) [] .lmp in
     let found = rw (plain lmp (omega (arith, mag-le lmp, small))) at (c .consumes .ensures) in
-    let curve = read-curve (s .args .file .now) (rowIn (s .args .row)) (among e) (d .dispatched-on .ensures) (part .curve .ensures .0) in
+    let f = s .args .file .now in
+    let w = rowIn (s .args .row) in
+    let curve = read-curve f w (among e) (d .dispatched-on .ensures) (part .curve .ensures .0) in
     found ∙ ap (λ ps. ltb 0 (firstKw (fromLastReached lmp ps))) curve
 
 pub responds-spec : {M : Type 1} → statement M

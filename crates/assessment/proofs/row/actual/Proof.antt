@@ -56,7 +56,7 @@ returns c =
     let s = c .before .before .before in
     let w = rowIn (s .args .row) in
     let is = rw (sum-is s) at (c .or-none .ensures) in
-    (λ schedules. is, omega (arith, is, actual-le (rowWith w []) (row-in w [] (s .pre))))
+    (λ ss. is, omega (arith, is, actual-le (rowWith w []) (row-in w [] (s .pre))))
 
 pub actual-spec : {M : Type 1} → statement M
 actual-spec = tie.close (tie.spec add-or-none or-none-requires returns)

@@ -12,13 +12,13 @@ returns : tie.Need-returns
 unfolding rowWith rowIn
 returns c =
     let w = rowIn (c .before .args .row) in
-    (λ schedules. denominator-generation (rowWith w schedules) (c .match .keys1), row-in w [] (c .before .pre) .committed)
+    (λ ss. denominator-generation (rowWith w ss) (c .match .keys1), row-in w [] (c .before .pre) .committed)
 
 returns-2 : tie.Need-returns-2
 unfolding rowWith rowIn
 returns-2 c =
     let w = rowIn (c .before .args .row) in
-    (λ schedules. denominator-other (rowWith w schedules) (c .match .rest .1), omega arith)
+    (λ ss. denominator-other (rowWith w ss) (c .match .rest .1), omega arith)
 
 pub denominator-share-spec : {M : Type 1} → statement M
 denominator-share-spec = tie.close (tie.spec returns returns-2)

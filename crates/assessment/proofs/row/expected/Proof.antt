@@ -15,23 +15,23 @@ portion-requires c κs = let s = c .before in (s .pre .1, row-in (rowIn (s .args
 
 returns : tie.Need-returns
 unfolding rowWith rowIn
-returns c schedules =
+returns c ss =
     let m = c .before in
     let a = m .before .args in
-    c .portion .ensures ∙ expected-generation (rowWith (rowIn (a .row)) schedules) (ratioIn (a .ratio)) (m .match .keys1)
+    c .portion .ensures ∙ expected-generation (rowWith (rowIn (a .row)) ss) (ratioIn (a .ratio)) (m .match .keys1)
 
 returns-2 : tie.Need-returns-2
 unfolding rowWith rowIn
-returns-2 c schedules =
+returns-2 c ss =
     let m = c .before in
     let a = m .before .args in
-    expected-reducing (rowWith (rowIn (a .row)) schedules) (ratioIn (a .ratio)) (m .match .rest .1) (c .if1 .taken)
+    expected-reducing (rowWith (rowIn (a .row)) ss) (ratioIn (a .ratio)) (m .match .rest .1) (c .if1 .taken)
 
 returns-3 : tie.Need-returns-3
 unfolding rowWith rowIn
-returns-3 c schedules =
+returns-3 c ss =
     let a = c .before .before .args in
-    expected-high (rowWith (rowIn (a .row)) schedules) (ratioIn (a .ratio)) (c .if1 .left)
+    expected-high (rowWith (rowIn (a .row)) ss) (ratioIn (a .ratio)) (c .if1 .left)
 
 pub expected-spec : {M : Type 1} → statement M
 expected-spec = tie.close (tie.spec portion-requires returns returns-2 returns-3)

@@ -18,7 +18,7 @@ row c = rowOf (c .args .file .now) (rowIn (c .args .row))
 -- its actual
 actual-is : (c : tie.After-actual) → c .actual .result .0 ≡ actual (row (c .before .before))
 unfolding rowOf rowWith
-actual-is c = let a = c .before .before .args in c .actual .ensures .0 (rowOf (a .file .now) (rowIn (a .row)) .schedules)
+actual-is c = c .actual .ensures .0 (row (c .before .before) .schedules)
 
 actual-requires : tie.Need-actual-requires
 actual-requires c κs = search needs

@@ -59,7 +59,7 @@ economic-is c =
     let most = given .before in
     let able = most .before in
     let s = able .before .before .before in
-    let left = able .available .ensures (rowOf (s .args .file .now) (rowIn (s .args .row)) .schedules) in
+    let left = able .available .ensures (row s .schedules) in
     let top = most .lesser2 .ensures ∙ ap₂ min (able .before .lesser .ensures) left ∙ least _ _ _ in
     let bottom = greatest .greater .ensures ∙ ap₂ max (given .offered .ensures .1) (s .pre .1 .1) in
     c .less .ensures ∙ ap₂ _-_ top bottom

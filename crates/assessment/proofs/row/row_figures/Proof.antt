@@ -21,15 +21,13 @@ ratio c = ratioIn (c .args .ratio)
 -- the row's actual
 actual-is : (c : tie.After-actual) → c .actual .result .0 ≡ actual (row (c .before .before))
 unfolding rowOf rowWith
-actual-is c = let a = c .before .before .args in c .actual .ensures .0 (rowOf (a .file .now) (rowIn (a .row)) .schedules)
+actual-is c = c .actual .ensures .0 (row (c .before .before) .schedules)
 
 -- what is expected of it
 expected-is : (c : tie.After-expected) → let s = c .before .before .before in
     c .expected .result .0 ≡ expected (ratio s) (row s)
 unfolding rowOf rowWith
-expected-is c =
-    let a = c .before .before .before .args in
-    c .expected .ensures (rowOf (a .file .now) (rowIn (a .row)) .schedules)
+expected-is c = c .expected .ensures (row (c .before .before .before) .schedules)
 
 actual-requires : tie.Need-actual-requires
 actual-requires c κs = search needs
