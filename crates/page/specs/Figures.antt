@@ -57,7 +57,7 @@ pub record PageFigures : Type 0 where
       ++ text "year,12,18333,0,557629,0,821250000\n")
   pub cut-later : Prints 14 (listingStream ++ 1 ∷ [])
       (text "1000,14,5000,15001,0,0,0,10001,0,139417\n" ++ text "cut,2\n" ++ text "year,14,0,10001,0,139417,82125000\n")
-  pub long-interval : Prints 14 (counted listingBlock ++ bytesOf 4 49153 ++ counted (listingFile 1000 0 0))
+  pub long-interval : Prints 14 (counted listingBlock ++ bytesOf 4 61441 ++ counted (listingFile 1000 0 0))
       (text "refused,1,7\n" ++ text "year,14,0,0,0,0,0\n")
   -- without an accepted opening there is no year, and no id is looked for
   pub refused-opening : Prints 15 (counted (drop 4 listingBlock) ++ listingStream) (text "refused,0,1\n")

@@ -45,7 +45,12 @@ pub row-most : (format : ℕ) → layoutOf format .rowBytes ≤ 60
 unfolding layoutOf
 row-most = in-either (λ (l : Layout). l .rowBytes ≤ 60) (omega arith) (omega arith)
 
--- which that of another format than 1 has
+-- a row of format 1 has fourteen
+pub row-fourteen : {format : ℕ} → format ≡ curvesFormat → layoutOf format .rowBytes ≡ 56
+unfolding layoutOf
+row-fourteen {format} e = rw (eq-eqb format curvesFormat e)
+
+-- and one of another format fifteen
 pub row-fifteen : {format : ℕ} → (format ≡ curvesFormat → ⊥) → layoutOf format .rowBytes ≡ 60
 unfolding layoutOf
 row-fifteen {format} other = rw (ne-eqb format curvesFormat other)

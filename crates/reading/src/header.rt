@@ -38,6 +38,10 @@ const MOST_POINTS: usize = 2048;
 
 const MOST_SCHEDULES: usize = 1024;
 
+pub const CURVES_ROW_BYTES: usize = 56;
+
+pub const SCHEDULES_ROW_BYTES: usize = 60;
+
 pub const POINT_BYTES: usize = 8;
 
 pub const SCHEDULE_BYTES: usize = 12;
@@ -56,12 +60,12 @@ pub fn layout_of(format: u64) -> Layout
     match format {
         CURVES => Layout {
             header_bytes: 40,
-            row_bytes: 56,
+            row_bytes: CURVES_ROW_BYTES,
             most_bytes: 49152,
         },
         _ => Layout {
             header_bytes: 48,
-            row_bytes: 60,
+            row_bytes: SCHEDULES_ROW_BYTES,
             most_bytes: MOST_FILE_BYTES,
         },
     }
