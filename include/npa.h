@@ -30,9 +30,9 @@
 #include <stdint.h>
 
 /* The version of header and archive. */
-#define NPA_VERSION "1.7.0"
+#define NPA_VERSION "1.8.0"
 #define NPA_VERSION_MAJOR 1
-#define NPA_VERSION_MINOR 7
+#define NPA_VERSION_MINOR 8
 #define NPA_VERSION_PATCH 0
 
 /*
@@ -54,12 +54,13 @@
 extern "C" {
 #endif
 
-/* Word 0 of an opening block, an interval file and a ledger; and of an opening block that names its year. */
+/* Word 0 of a ledger, an opening block and an interval file; 2 of a block with its year and a file with schedules. */
 #define NPA_FORMAT_1 1
 #define NPA_FORMAT_2 2
 
 /*
- * Sizes, in bytes. A block is a header, which is longer in format 2, and ids; a file a header, rows and points; a ledger a header and accounts; a
+ * Sizes, in bytes. A block is a header, which is longer in format 2, and ids; a file a header, rows and points, and in
+ * format 2, where header and rows are longer, schedules; a ledger a header and accounts; a
  * result a header, which is the interval's words, and rows.
  */
 #define NPA_BLOCK_HEADER_BYTES 20
@@ -67,6 +68,9 @@ extern "C" {
 #define NPA_ID_BYTES 4
 #define NPA_FILE_HEADER_BYTES 40
 #define NPA_ROW_BYTES 56
+#define NPA_FILE_2_HEADER_BYTES 48
+#define NPA_ROW_2_BYTES 60
+#define NPA_SCHEDULE_BYTES 12
 #define NPA_POINT_BYTES 8
 #define NPA_LEDGER_HEADER_BYTES 64
 #define NPA_ACCOUNT_BYTES 32
@@ -77,11 +81,13 @@ extern "C" {
 #define NPA_LENGTH_BYTES 4
 #define NPA_COUNT_BYTES 8
 
-/* The most ids of a ledger, rows and points of an interval file, and points of one row. */
+/* The most ids of a ledger, rows, points and schedules of an interval file, points of one curve, schedules of one row. */
 #define NPA_IDS_MOST 512
 #define NPA_ROWS_MOST 512
 #define NPA_POINTS_MOST 2048
+#define NPA_SCHEDULES_MOST 1024
 #define NPA_ROW_POINTS_MOST 10
+#define NPA_ROW_SCHEDULES_MOST 4
 
 /* Bytes of a ledger of so many ids, and of a result of so many rows. */
 #define NPA_LEDGER_BYTES(ids) ((size_t)NPA_LEDGER_HEADER_BYTES + (size_t)NPA_ACCOUNT_BYTES * (ids))
@@ -95,7 +101,10 @@ extern "C" {
 #define NPA_LEDGER_MOST NPA_LEDGER_BYTES(NPA_IDS_MOST)
 #define NPA_RESULT_MOST NPA_RESULT_BYTES(NPA_ROWS_MOST)
 #define NPA_BLOCK_MOST 4096
-#define NPA_FILE_MOST 49152
+#define NPA_FILE_MOST 61440
+
+/* The most that an interval file of format 1 may have. */
+#define NPA_FILE_1_MOST 49152
 
 /*
  * The calendar year in which a delivery year starts, as an opening block of format 2 names it: the first, which has 365
@@ -141,7 +150,9 @@ enum npa_file_word {
     NPA_FILE_ROWS = 6,        /* how many */
     NPA_FILE_ROWS_AT = 7,     /* offset in bytes */
     NPA_FILE_POINTS = 8,      /* how many */
-    NPA_FILE_POINTS_AT = 9    /* offset in bytes */
+    NPA_FILE_POINTS_AT = 9,   /* offset in bytes */
+    NPA_FILE_SCHEDULES = 10,  /* how many; this and the next in format 2 alone */
+    NPA_FILE_SCHEDULES_AT = 11 /* offset in bytes */
 };
 
 /* Of a row in a file. Words 2 to 9 are kW. */
@@ -160,6 +171,26 @@ enum npa_row_word {
     NPA_ROW_LMP = 11,         /* cents per MWh, signed */
     NPA_ROW_FIRST_POINT = 12, /* counted from 0 */
     NPA_ROW_POINTS = 13       /* how many */
+};
+
+/* Of a row in a file of format 2, from word 12 on. */
+enum npa_row_2_word {
+    NPA_ROW_FIRST_SCHEDULE = 12, /* counted from 0 */
+    NPA_ROW_SCHEDULES = 13,      /* how many */
+    NPA_ROW_DISPATCHED = 14      /* which of them it was dispatched on, counted from 0 */
+};
+
+/* Of a schedule in a file of format 2. */
+enum npa_schedule_word {
+    NPA_SCHEDULE_KIND = 0,        /* enum npa_schedule_kind */
+    NPA_SCHEDULE_FIRST_POINT = 1, /* counted from 0 */
+    NPA_SCHEDULE_POINTS = 2       /* how many */
+};
+
+enum npa_schedule_kind {
+    NPA_SCHEDULE_MARKET = 1,
+    NPA_SCHEDULE_PLS = 2, /* price-based PLS */
+    NPA_SCHEDULE_COST = 3
 };
 
 enum npa_kind {
@@ -236,12 +267,13 @@ enum npa_answer {
     NPA_REFUSED_OTHER_TERMS = 8,  /* the file's Net CONE or days are not those of the ledger */
     NPA_REFUSED_EVENT = 9,        /* interval not in the year, region-wide not 0 or 1, or imports out of range */
     NPA_REFUSED_PAST = 10,        /* the ledger has already moved beyond this interval */
-    NPA_REFUSED_TABLES = 11,      /* rows or points of an impossible number, outside the file, or overlapping */
+    NPA_REFUSED_TABLES = 11,      /* a table of an impossible number, outside the file, or overlapping another */
     NPA_REFUSED_ROW_IDS = 12,     /* row ids out of order, or a row without an account */
     NPA_REFUSED_ROW = 13,         /* a row has a word out of range, or words that contradict each other */
-    NPA_REFUSED_POINTS = 14,      /* a row's points are too many, outside the table, out of range or falling */
+    NPA_REFUSED_POINTS = 14,      /* a curve's points are too many, outside the table, out of range or falling */
     NPA_REFUSED_RESULT_ROOM = 15, /* result buffer too short for this many rows */
     NPA_REFUSED_POOL = 16,        /* carried cents and charges together grow too large */
+    NPA_REFUSED_SCHEDULES = 18,   /* of format 2, between 13 and 14: a row's schedules, or the one dispatched on */
 
     /* An event: the first before all else, the second for each file before 6. */
     NPA_REFUSED_COUNT_ROOM = 20,  /* count buffer under 8 bytes */
@@ -260,7 +292,8 @@ NPA_ANSWERS NPA_NOT_NULL
 uint32_t npa_open(const uint8_t *block, size_t block_len, uint8_t *ledger, size_t ledger_len);
 
 /*
- * Settles an interval file into a ledger. Answers NPA_OK or a refusal from 6 to 16.
+ * Settles an interval file into a ledger. Answers NPA_OK or a refusal from 6 to 16, or
+ * NPA_REFUSED_SCHEDULES, which is tested after 13 and before 14.
  *
  * ledger  is the one that npa_open and the calls since then left, which the caller sees to; of any other bytes
  *         the call only finds words out of range and sums that do not close. On NPA_OK the accounts have the
@@ -375,19 +408,22 @@ static inline const char *npa_answer_text(uint32_t answer)
     case NPA_REFUSED_PAST:
         return "the interval is before the earliest that the ledger still accepts; the same file again is such a one";
     case NPA_REFUSED_TABLES:
-        return "there are no rows, more than 512, or more than 2048 points, "
-               "or a table leaves the file or overlaps the other";
+        return "there are no rows, more than 512, more than 2048 points or 1024 schedules, "
+               "or a table leaves the file or overlaps another";
     case NPA_REFUSED_ROW_IDS:
         return "row ids do not rise, or a row has no account";
     case NPA_REFUSED_ROW:
         return "a word of a row is out of range (kind 5, 4000000 kW, 1000000 cents per MWh), or contradicts another, "
                "as a commitment does kind 4 or 5";
     case NPA_REFUSED_POINTS:
-        return "a row has more than 10 points, or they lie outside the table, are out of range or fall";
+        return "a curve has more than 10 points, a schedule none, or they lie outside the table, are out of range or fall";
     case NPA_REFUSED_RESULT_ROOM:
         return "the result buffer is too short";
     case NPA_REFUSED_POOL:
         return "carried cents and charges together would exceed 1099511627775";
+    case NPA_REFUSED_SCHEDULES:
+        return "a row names more than 4 schedules, or some outside the table or of no kind, "
+               "or was dispatched on none of them; tested after 13";
     case NPA_REFUSED_COUNT_ROOM:
         return "the count buffer is too short";
     case NPA_REFUSED_LENGTH:

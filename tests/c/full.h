@@ -8,13 +8,12 @@
 #include "npa.h"
 
 #include "check.h"
-#include "format2.h"
 
 #define FULL_BLOCK_LEN (NPA_BLOCK_HEADER_BYTES + NPA_ID_BYTES * NPA_IDS_MOST)
 #define FULL_FILE_LEN (NPA_FILE_HEADER_BYTES + NPA_ROW_BYTES * NPA_ROWS_MOST + NPA_POINT_BYTES * NPA_POINTS_MOST)
 
 #define FULL_FILE_2_LEN \
-    (HEADER_2_BYTES + ROW_2_BYTES * NPA_ROWS_MOST + NPA_POINT_BYTES * NPA_POINTS_MOST + SCHEDULE_BYTES * SCHEDULES_MOST)
+    (NPA_FILE_2_HEADER_BYTES + NPA_ROW_2_BYTES * NPA_ROWS_MOST + NPA_POINT_BYTES * NPA_POINTS_MOST + NPA_SCHEDULE_BYTES * NPA_SCHEDULES_MOST)
 
 /* Plants 1 to 512. */
 static inline void write_full_block(uint8_t *block)
@@ -88,27 +87,27 @@ static inline void write_full_file(uint8_t *file, uint32_t interval, uint32_t sa
 /* The same in format 2, with schedules of all kinds. */
 static inline void write_full_file_2(uint8_t *file, uint32_t interval, uint32_t salt)
 {
-    const uint32_t rows_at = HEADER_2_BYTES, points_at = rows_at + ROW_2_BYTES * NPA_ROWS_MOST;
+    const uint32_t rows_at = NPA_FILE_2_HEADER_BYTES, points_at = rows_at + NPA_ROW_2_BYTES * NPA_ROWS_MOST;
     const uint32_t schedules_at = points_at + NPA_POINT_BYTES * NPA_POINTS_MOST;
     uint32_t i;
 
     memset(file, 0, FULL_FILE_2_LEN);
-    write_full_header(file, FORMAT_2, interval, rows_at, points_at);
-    npa_put32(file, FILE_SCHEDULES, SCHEDULES_MOST);
-    npa_put32(file, FILE_SCHEDULES_AT, schedules_at);
+    write_full_header(file, NPA_FORMAT_2, interval, rows_at, points_at);
+    npa_put32(file, NPA_FILE_SCHEDULES, NPA_SCHEDULES_MOST);
+    npa_put32(file, NPA_FILE_SCHEDULES_AT, schedules_at);
     for (i = 0; i < NPA_ROWS_MOST; i++) {
-        uint8_t *row = file + rows_at + ROW_2_BYTES * i;
+        uint8_t *row = file + rows_at + NPA_ROW_2_BYTES * i;
         write_full_row(row, i, salt);
-        npa_put32(row, ROW_FIRST_SCHEDULE, 2 * i % (SCHEDULES_MOST - ROW_SCHEDULES_MOST + 1));
-        npa_put32(row, ROW_SCHEDULES, ROW_SCHEDULES_MOST);
-        npa_put32(row, ROW_DISPATCHED, (i + salt) % ROW_SCHEDULES_MOST);
+        npa_put32(row, NPA_ROW_FIRST_SCHEDULE, 2 * i % (NPA_SCHEDULES_MOST - NPA_ROW_SCHEDULES_MOST + 1));
+        npa_put32(row, NPA_ROW_SCHEDULES, NPA_ROW_SCHEDULES_MOST);
+        npa_put32(row, NPA_ROW_DISPATCHED, (i + salt) % NPA_ROW_SCHEDULES_MOST);
     }
     write_full_points(file + points_at);
-    for (i = 0; i < SCHEDULES_MOST; i++) {
-        uint8_t *schedule = file + schedules_at + SCHEDULE_BYTES * i;
-        npa_put32(schedule, SCHEDULE_KIND, MARKET + i % 3);
-        npa_put32(schedule, SCHEDULE_FIRST_POINT, i);
-        npa_put32(schedule, SCHEDULE_POINTS, NPA_ROW_POINTS_MOST);
+    for (i = 0; i < NPA_SCHEDULES_MOST; i++) {
+        uint8_t *schedule = file + schedules_at + NPA_SCHEDULE_BYTES * i;
+        npa_put32(schedule, NPA_SCHEDULE_KIND, NPA_SCHEDULE_MARKET + i % 3);
+        npa_put32(schedule, NPA_SCHEDULE_FIRST_POINT, i);
+        npa_put32(schedule, NPA_SCHEDULE_POINTS, NPA_ROW_POINTS_MOST);
     }
 }
 

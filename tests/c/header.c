@@ -229,8 +229,8 @@ int main(int count, char **arguments)
     hold("text of 0", 0, strcmp(npa_answer_text(NPA_OK), "accepted") == 0, 1);
     for (answer = NPA_OK; answer < 100; answer++) {
         hold("meaning of", answer, (uint64_t)has_meaning(answer),
-             answer <= NPA_REFUSED_POOL || answer == NPA_REFUSED_COUNT_ROOM || answer == NPA_REFUSED_LENGTH ||
-                 answer == NPA_REFUSED_YEAR);
+             answer <= NPA_REFUSED_POOL || answer == NPA_REFUSED_SCHEDULES || answer == NPA_REFUSED_COUNT_ROOM ||
+                 answer == NPA_REFUSED_LENGTH || answer == NPA_REFUSED_YEAR);
     }
     settle();
     event();

@@ -6,14 +6,13 @@
 #include "npa.h"
 
 #include "check.h"
-#include "format2.h"
 
 #define ROWS 6
 #define POINTS 9
 #define SCHEDULES 5
 #define BLOCK_WORDS (5 + ROWS)
-#define ROWS_AT (HEADER_2_BYTES / 4)
-#define POINTS_AT (ROWS_AT + ROW_2_BYTES / 4 * ROWS)
+#define ROWS_AT (NPA_FILE_2_HEADER_BYTES / 4)
+#define POINTS_AT (ROWS_AT + NPA_ROW_2_BYTES / 4 * ROWS)
 #define SCHEDULES_AT (POINTS_AT + 2 * POINTS)
 #define FILE_WORDS (SCHEDULES_AT + 3 * SCHEDULES)
 #define FILE_LEN (4 * FILE_WORDS)
@@ -21,12 +20,12 @@
 #define RESULT_LEN NPA_RESULT_BYTES(ROWS)
 
 /* The words of a row, and of a schedule. */
-#define ROW(row, word) (ROWS_AT + ROW_2_BYTES / 4 * (row) + (word))
+#define ROW(row, word) (ROWS_AT + NPA_ROW_2_BYTES / 4 * (row) + (word))
 #define SCHEDULE(schedule, word) (SCHEDULES_AT + 3 * (schedule) + (word))
 
 static const uint32_t FILE_2[FILE_WORDS] = {
     /* as in format 1; then schedules and their offset */
-    FORMAT_2, 100, 30000, 365, 1, 200000, ROWS, 4 * ROWS_AT, POINTS, 4 * POINTS_AT, SCHEDULES, 4 * SCHEDULES_AT,
+    NPA_FORMAT_2, 100, 30000, 365, 1, 200000, ROWS, 4 * ROWS_AT, POINTS, 4 * POINTS_AT, SCHEDULES, 4 * SCHEDULES_AT,
     /* as in format 1 up to the LMP; then first schedule, schedules, and the one dispatched on */
     11, 0, 100000, 110000, 10000, 0, 0, 0, 110000, 20000, 1, 3000, 0, 3, 0,
     12, 0, 100000, 110000, 10000, 0, 0, 0, 110000, 20000, 1, 3000, 0, 3, 1,
@@ -41,11 +40,11 @@ static const uint32_t FILE_2[FILE_WORDS] = {
     500, 0, 2000, 3000,
     1500, 1,
     /* kind, first point, points */
-    MARKET, 0, 2,
-    PLS, 2, 2,
-    COST, 4, 2,
-    MARKET, 6, 2,
-    COST, 8, 1,
+    NPA_SCHEDULE_MARKET, 0, 2,
+    NPA_SCHEDULE_PLS, 2, 2,
+    NPA_SCHEDULE_COST, 4, 2,
+    NPA_SCHEDULE_MARKET, 6, 2,
+    NPA_SCHEDULE_COST, 8, 1,
 };
 
 static const uint64_t RESULT[8 + 8 * ROWS] = {
@@ -125,32 +124,32 @@ static const struct change CHANGES[] = {
     {NPA_REFUSED_TABLES, NPA_FILE_ROWS_AT, 49},
     {NPA_REFUSED_TABLES, NPA_FILE_POINTS_AT, 4 * POINTS_AT - 1},
     {NPA_REFUSED_TABLES, NPA_FILE_POINTS_AT, 4 * POINTS_AT + 1},
-    {NPA_REFUSED_TABLES, FILE_SCHEDULES, SCHEDULES + 1},
-    {NPA_REFUSED_TABLES, FILE_SCHEDULES, 0xffffffff},
-    {NPA_REFUSED_TABLES, FILE_SCHEDULES_AT, 4 * SCHEDULES_AT - 1},
-    {NPA_REFUSED_TABLES, FILE_SCHEDULES_AT, 4 * SCHEDULES_AT + 1},
-    {NPA_REFUSED_TABLES, FILE_SCHEDULES_AT, 0xffffffff},
+    {NPA_REFUSED_TABLES, NPA_FILE_SCHEDULES, SCHEDULES + 1},
+    {NPA_REFUSED_TABLES, NPA_FILE_SCHEDULES, 0xffffffff},
+    {NPA_REFUSED_TABLES, NPA_FILE_SCHEDULES_AT, 4 * SCHEDULES_AT - 1},
+    {NPA_REFUSED_TABLES, NPA_FILE_SCHEDULES_AT, 4 * SCHEDULES_AT + 1},
+    {NPA_REFUSED_TABLES, NPA_FILE_SCHEDULES_AT, 0xffffffff},
     {NPA_REFUSED_ROW_IDS, ROW(1, NPA_ROW_ID), 11},
     {NPA_REFUSED_ROW, ROW(5, NPA_ROW_KIND), NPA_KIND_IMPORTER + 1},
-    {NPA_OK, ROW(0, ROW_SCHEDULES), ROW_SCHEDULES_MOST},
-    {REFUSED_SCHEDULES, ROW(0, ROW_SCHEDULES), ROW_SCHEDULES_MOST + 1},
-    {REFUSED_SCHEDULES, ROW(4, ROW_SCHEDULES), 3},
-    {NPA_OK, ROW(4, ROW_FIRST_SCHEDULE), 2},
-    {REFUSED_SCHEDULES, ROW(4, ROW_FIRST_SCHEDULE), 4},
-    {REFUSED_SCHEDULES, ROW(4, ROW_FIRST_SCHEDULE), 0xffffffff},
-    {NPA_OK, ROW(0, ROW_DISPATCHED), 2},
-    {REFUSED_SCHEDULES, ROW(0, ROW_DISPATCHED), 3},
-    {NPA_OK, ROW(5, ROW_FIRST_SCHEDULE), 5},
-    {REFUSED_SCHEDULES, ROW(5, ROW_DISPATCHED), 1},
-    {NPA_OK, SCHEDULE(1, SCHEDULE_KIND), COST},
-    {REFUSED_SCHEDULES, SCHEDULE(1, SCHEDULE_KIND), 0},
-    {REFUSED_SCHEDULES, SCHEDULE(4, SCHEDULE_KIND), COST + 1},
-    {NPA_OK, SCHEDULE(0, SCHEDULE_POINTS), 1},
-    {NPA_REFUSED_POINTS, SCHEDULE(0, SCHEDULE_POINTS), 0},
-    {NPA_REFUSED_POINTS, SCHEDULE(0, SCHEDULE_POINTS), NPA_ROW_POINTS_MOST + 1},
-    {NPA_REFUSED_POINTS, SCHEDULE(0, SCHEDULE_POINTS), 3},
-    {NPA_REFUSED_POINTS, SCHEDULE(4, SCHEDULE_FIRST_POINT), POINTS},
-    {NPA_REFUSED_POINTS, SCHEDULE(4, SCHEDULE_FIRST_POINT), 0xffffffff},
+    {NPA_OK, ROW(0, NPA_ROW_SCHEDULES), NPA_ROW_SCHEDULES_MOST},
+    {NPA_REFUSED_SCHEDULES, ROW(0, NPA_ROW_SCHEDULES), NPA_ROW_SCHEDULES_MOST + 1},
+    {NPA_REFUSED_SCHEDULES, ROW(4, NPA_ROW_SCHEDULES), 3},
+    {NPA_OK, ROW(4, NPA_ROW_FIRST_SCHEDULE), 2},
+    {NPA_REFUSED_SCHEDULES, ROW(4, NPA_ROW_FIRST_SCHEDULE), 4},
+    {NPA_REFUSED_SCHEDULES, ROW(4, NPA_ROW_FIRST_SCHEDULE), 0xffffffff},
+    {NPA_OK, ROW(0, NPA_ROW_DISPATCHED), 2},
+    {NPA_REFUSED_SCHEDULES, ROW(0, NPA_ROW_DISPATCHED), 3},
+    {NPA_OK, ROW(5, NPA_ROW_FIRST_SCHEDULE), 5},
+    {NPA_REFUSED_SCHEDULES, ROW(5, NPA_ROW_DISPATCHED), 1},
+    {NPA_OK, SCHEDULE(1, NPA_SCHEDULE_KIND), NPA_SCHEDULE_COST},
+    {NPA_REFUSED_SCHEDULES, SCHEDULE(1, NPA_SCHEDULE_KIND), 0},
+    {NPA_REFUSED_SCHEDULES, SCHEDULE(4, NPA_SCHEDULE_KIND), NPA_SCHEDULE_COST + 1},
+    {NPA_OK, SCHEDULE(0, NPA_SCHEDULE_POINTS), 1},
+    {NPA_REFUSED_POINTS, SCHEDULE(0, NPA_SCHEDULE_POINTS), 0},
+    {NPA_REFUSED_POINTS, SCHEDULE(0, NPA_SCHEDULE_POINTS), NPA_ROW_POINTS_MOST + 1},
+    {NPA_REFUSED_POINTS, SCHEDULE(0, NPA_SCHEDULE_POINTS), 3},
+    {NPA_REFUSED_POINTS, SCHEDULE(4, NPA_SCHEDULE_FIRST_POINT), POINTS},
+    {NPA_REFUSED_POINTS, SCHEDULE(4, NPA_SCHEDULE_FIRST_POINT), 0xffffffff},
     {NPA_REFUSED_POINTS, POINTS_AT + 1, NPA_KW_MOST + 1},
 };
 
@@ -185,7 +184,7 @@ static void settle_length(uint32_t format, size_t length, uint32_t answer)
     }
     whole = bytes_of(words, FILE_LEN);
     memcpy(file, whole, length < FILE_LEN ? length : FILE_LEN);
-    settle(format == FORMAT_2 ? "answer to a file of format 2 of length" : "answer to a file of format 1 of length",
+    settle(format == NPA_FORMAT_2 ? "answer to a file of format 2 of length" : "answer to a file of format 1 of length",
            length, file, length, answer);
     free(file);
     free(whole);
@@ -194,12 +193,12 @@ static void settle_length(uint32_t format, size_t length, uint32_t answer)
 /* So many schedules, all really there behind the others. */
 static void settle_schedules(uint32_t schedules, uint32_t answer)
 {
-    const size_t length = 4 * SCHEDULES_AT + (size_t)SCHEDULE_BYTES * schedules;
+    const size_t length = 4 * SCHEDULES_AT + (size_t)NPA_SCHEDULE_BYTES * schedules;
     uint8_t *file = filled(length);
     uint8_t *whole = bytes_of(FILE_2, FILE_LEN);
 
     memcpy(file, whole, FILE_LEN);
-    npa_put32(file, FILE_SCHEDULES, schedules);
+    npa_put32(file, NPA_FILE_SCHEDULES, schedules);
     settle("answer to schedules", schedules, file, length, answer);
     free(file);
     free(whole);
@@ -208,14 +207,14 @@ static void settle_schedules(uint32_t schedules, uint32_t answer)
 /* The last plant alone, without points and schedules, whose tables stand at an offset. */
 static void settle_empty(size_t word, uint32_t offset, uint32_t answer)
 {
-    uint32_t words[HEADER_2_BYTES / 4 + ROW_2_BYTES / 4];
+    uint32_t words[NPA_FILE_2_HEADER_BYTES / 4 + NPA_ROW_2_BYTES / 4];
     uint8_t *file;
 
-    memcpy(words, FILE_2, HEADER_2_BYTES);
-    memcpy(words + ROWS_AT, FILE_2 + ROW(5, 0), ROW_2_BYTES);
+    memcpy(words, FILE_2, NPA_FILE_2_HEADER_BYTES);
+    memcpy(words + ROWS_AT, FILE_2 + ROW(5, 0), NPA_ROW_2_BYTES);
     words[NPA_FILE_ROWS] = 1;
-    words[NPA_FILE_POINTS] = words[FILE_SCHEDULES] = 0;
-    words[NPA_FILE_POINTS_AT] = words[FILE_SCHEDULES_AT] = HEADER_2_BYTES;
+    words[NPA_FILE_POINTS] = words[NPA_FILE_SCHEDULES] = 0;
+    words[NPA_FILE_POINTS_AT] = words[NPA_FILE_SCHEDULES_AT] = NPA_FILE_2_HEADER_BYTES;
     words[word] = offset;
     file = bytes_of(words, sizeof words);
     settle("answer to an empty table at", offset, file, sizeof words, answer);
@@ -224,28 +223,28 @@ static void settle_empty(size_t word, uint32_t offset, uint32_t answer)
 
 int main(void)
 {
-    static const size_t EMPTY[] = {NPA_FILE_POINTS_AT, FILE_SCHEDULES_AT};
+    static const size_t EMPTY[] = {NPA_FILE_POINTS_AT, NPA_FILE_SCHEDULES_AT};
     size_t i;
 
     settle_file();
     settle_changes();
-    settle_length(FORMAT_2, 0, NPA_REFUSED_FILE);
-    settle_length(FORMAT_2, HEADER_2_BYTES - 1, NPA_REFUSED_FILE);
-    settle_length(FORMAT_2, HEADER_2_BYTES, NPA_REFUSED_TABLES);
-    settle_length(FORMAT_2, FILE_LEN - 1, NPA_REFUSED_TABLES);
-    settle_length(FORMAT_2, FILE_1_MOST + 1, NPA_OK);
-    settle_length(FORMAT_2, FILE_2_MOST, NPA_OK);
-    settle_length(FORMAT_2, FILE_2_MOST + 1, NPA_REFUSED_FILE);
-    settle_length(NPA_FORMAT_1, FILE_1_MOST, NPA_OK);
-    settle_length(NPA_FORMAT_1, FILE_1_MOST + 1, NPA_REFUSED_FILE);
-    settle_length(NPA_FORMAT_1, FILE_2_MOST, NPA_REFUSED_FILE);
-    settle_schedules(SCHEDULES_MOST, NPA_OK);
-    settle_schedules(SCHEDULES_MOST + 1, NPA_REFUSED_TABLES);
+    settle_length(NPA_FORMAT_2, 0, NPA_REFUSED_FILE);
+    settle_length(NPA_FORMAT_2, NPA_FILE_2_HEADER_BYTES - 1, NPA_REFUSED_FILE);
+    settle_length(NPA_FORMAT_2, NPA_FILE_2_HEADER_BYTES, NPA_REFUSED_TABLES);
+    settle_length(NPA_FORMAT_2, FILE_LEN - 1, NPA_REFUSED_TABLES);
+    settle_length(NPA_FORMAT_2, NPA_FILE_1_MOST + 1, NPA_OK);
+    settle_length(NPA_FORMAT_2, NPA_FILE_MOST, NPA_OK);
+    settle_length(NPA_FORMAT_2, NPA_FILE_MOST + 1, NPA_REFUSED_FILE);
+    settle_length(NPA_FORMAT_1, NPA_FILE_1_MOST, NPA_OK);
+    settle_length(NPA_FORMAT_1, NPA_FILE_1_MOST + 1, NPA_REFUSED_FILE);
+    settle_length(NPA_FORMAT_1, NPA_FILE_MOST, NPA_REFUSED_FILE);
+    settle_schedules(NPA_SCHEDULES_MOST, NPA_OK);
+    settle_schedules(NPA_SCHEDULES_MOST + 1, NPA_REFUSED_TABLES);
     for (i = 0; i < sizeof EMPTY / sizeof EMPTY[0]; i++) {
-        settle_empty(EMPTY[i], HEADER_2_BYTES - 1, NPA_REFUSED_TABLES);
-        settle_empty(EMPTY[i], HEADER_2_BYTES, NPA_OK);
-        settle_empty(EMPTY[i], HEADER_2_BYTES + ROW_2_BYTES, NPA_OK);
-        settle_empty(EMPTY[i], HEADER_2_BYTES + ROW_2_BYTES + 1, NPA_REFUSED_TABLES);
+        settle_empty(EMPTY[i], NPA_FILE_2_HEADER_BYTES - 1, NPA_REFUSED_TABLES);
+        settle_empty(EMPTY[i], NPA_FILE_2_HEADER_BYTES, NPA_OK);
+        settle_empty(EMPTY[i], NPA_FILE_2_HEADER_BYTES + NPA_ROW_2_BYTES, NPA_OK);
+        settle_empty(EMPTY[i], NPA_FILE_2_HEADER_BYTES + NPA_ROW_2_BYTES + 1, NPA_REFUSED_TABLES);
     }
     return 0;
 }

@@ -85,19 +85,19 @@ static size_t event_used(uint32_t interval)
 /* The most that settling files of format 2 uses, from this interval on: to accept, and to refuse in the last row. */
 static size_t format_2_used(uint32_t interval)
 {
-    uint8_t *last = file + HEADER_2_BYTES + ROW_2_BYTES * (NPA_ROWS_MOST - 1);
-    uint8_t *schedule = file + FULL_FILE_2_LEN - SCHEDULE_BYTES;
+    uint8_t *last = file + NPA_FILE_2_HEADER_BYTES + NPA_ROW_2_BYTES * (NPA_ROWS_MOST - 1);
+    uint8_t *schedule = file + FULL_FILE_2_LEN - NPA_SCHEDULE_BYTES;
     size_t most = 0;
 
     file_len = FULL_FILE_2_LEN;
     write_full_file_2(file, interval, interval);
     most = settled(most, NPA_OK);
     write_full_file_2(file, interval + 1, interval);
-    npa_put32(last, ROW_DISPATCHED, ROW_SCHEDULES_MOST);
-    most = settled(most, REFUSED_SCHEDULES);
+    npa_put32(last, NPA_ROW_DISPATCHED, NPA_ROW_SCHEDULES_MOST);
+    most = settled(most, NPA_REFUSED_SCHEDULES);
     write_full_file_2(file, interval + 1, interval);
-    npa_put32(last, ROW_FIRST_SCHEDULE, SCHEDULES_MOST - ROW_SCHEDULES_MOST);
-    npa_put32(schedule, SCHEDULE_POINTS, NPA_ROW_POINTS_MOST + 1);
+    npa_put32(last, NPA_ROW_FIRST_SCHEDULE, NPA_SCHEDULES_MOST - NPA_ROW_SCHEDULES_MOST);
+    npa_put32(schedule, NPA_SCHEDULE_POINTS, NPA_ROW_POINTS_MOST + 1);
     most = settled(most, NPA_REFUSED_POINTS);
     file_len = FULL_FILE_LEN;
     return most;
