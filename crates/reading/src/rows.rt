@@ -119,26 +119,23 @@ fn row_of(row: &[u8], format: u64) -> Row
     }
 }
 
-// Where row i begins. Each format's rows are a constant apart, which is faster than a size that is looked up.
-fn row_place(h: Header, i: usize) -> usize
-    requires { ⌜ h .«rows_at» + layoutOf (h .format) .rowBytes * i < 2 ^ 64 ⌝ }
-    ensures { λ r. ⌜ r ≡ h .«rows_at» + layoutOf (h .format) .rowBytes * i ⌝ }
-{
-    let format = h.format;
-    match format {
-        CURVES => h.rows_at + CURVES_ROW_BYTES * i,
-        _ => h.rows_at + SCHEDULES_ROW_BYTES * i,
-    }
-}
-
-// Row i.
+// Row i. Each format's rows are a constant apart, which is faster than a size that is looked up.
 pub fn row_at(file: &[u8], h: Header, i: usize) -> Row
     requires { ⌜ Tabled (now file) h ⌝ }
     requires { ⌜ i < h .rows ⌝ }
     ensures { λ r. ⌜ rowIn r ≡ rowWordsAt (now (file .entry)) i ⌝ }
 {
-    let at = row_place(h, i);
-    row_of(&file[at..], h.format)
+    let format = h.format;
+    match format {
+        CURVES => {
+            let at = h.rows_at + CURVES_ROW_BYTES * i;
+            row_of(&file[at..], format)
+        }
+        _ => {
+            let at = h.rows_at + SCHEDULES_ROW_BYTES * i;
+            row_of(&file[at..], format)
+        }
+    }
 }
 
 // How many schedules a row has. In format 1 its points are its one schedule.
