@@ -107,8 +107,8 @@ extern "C" {
 #define NPA_FILE_1_MOST 49152
 
 /*
- * The calendar year in which a delivery year starts, as an opening block of format 2 names it: the first, which has 365
- * days, half the charge and half the limit, or one of the others from first to last.
+ * The calendar year in which a delivery year starts, as an opening block of format 2 names it: 2016, which has 365 days,
+ * half the charge and half the limit, or one from NPA_YEAR_FIRST to NPA_YEAR_LAST.
  */
 #define NPA_YEAR_TRANSITION 2016
 #define NPA_YEAR_FIRST 2018
