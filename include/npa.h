@@ -81,7 +81,7 @@ extern "C" {
 #define NPA_LENGTH_BYTES 4
 #define NPA_COUNT_BYTES 8
 
-/* The most ids of a ledger, rows, points and schedules of an interval file, points of one curve, schedules of one row. */
+/* The most ids of a ledger; rows, points and schedules of an interval file; points of a curve, schedules of a row. */
 #define NPA_IDS_MOST 512
 #define NPA_ROWS_MOST 512
 #define NPA_POINTS_MOST 2048
@@ -107,8 +107,8 @@ extern "C" {
 #define NPA_FILE_1_MOST 49152
 
 /*
- * The calendar year in which a delivery year starts, as an opening block of format 2 names it: 2016, which has 365 days,
- * half the charge and half the limit, or one from NPA_YEAR_FIRST to NPA_YEAR_LAST.
+ * The calendar year in which a delivery year starts, as an opening block of format 2 names it: 2016, which has 365
+ * days, half the charge and half the limit, or one from NPA_YEAR_FIRST to NPA_YEAR_LAST.
  */
 #define NPA_YEAR_TRANSITION 2016
 #define NPA_YEAR_FIRST 2018
@@ -286,7 +286,8 @@ enum npa_answer {
  *
  * block   is read.
  * ledger  needs NPA_LEDGER_BYTES(ids) bytes; what they held before does not matter. On NPA_OK all of them are
- *         written: the terms with the year, no interval settled, no cents carried, and an account without sums for each id.
+ *         written: the terms with the year, no interval settled, no cents carried, and an account without sums for
+ *         each id.
  */
 NPA_ANSWERS NPA_NOT_NULL
 uint32_t npa_open(const uint8_t *block, size_t block_len, uint8_t *ledger, size_t ledger_len);
@@ -416,7 +417,8 @@ static inline const char *npa_answer_text(uint32_t answer)
         return "a word of a row is out of range (kind 5, 4000000 kW, 1000000 cents per MWh), or contradicts another, "
                "as a commitment does kind 4 or 5";
     case NPA_REFUSED_POINTS:
-        return "a curve has more than 10 points, a schedule none, or they lie outside the table, are out of range or fall";
+        return "a curve has more than 10 points, a schedule none, or they lie outside the table, are out of range "
+               "or fall";
     case NPA_REFUSED_RESULT_ROOM:
         return "the result buffer is too short";
     case NPA_REFUSED_POOL:
@@ -429,8 +431,8 @@ static inline const char *npa_answer_text(uint32_t answer)
     case NPA_REFUSED_LENGTH:
         return "the buffer of files ends within a length, or before the file that a length announces";
     case NPA_REFUSED_YEAR:
-        return "the year of an opening block of format 2 is neither 2016 nor 2018 to 2023, or it is 2016 with 366 days; "
-               "tested after 2";
+        return "the year of an opening block of format 2 is neither 2016 nor 2018 to 2023, or it is 2016 with 366 "
+               "days; tested after 2";
     default:
         return "no answer of the settlement module";
     }
