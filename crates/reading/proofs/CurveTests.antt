@@ -22,17 +22,6 @@ use Rattle.reading.specs.Interval.{
   pointAt,
   pointRefused,
 }
-use Rattle.reading.proofs.SpanTests.{same-test}
-
--- so many entries of a table, from one of them on
-module _ (table first count : ℕ) where
-  -- more than the table has reach beyond it
-  pub reach-short : table < count → ltb table (first + count) ≡ true
-  reach-short h = lt-ltb table (first + count) (omega arith)
-
-  -- no more than that reach beyond it just where the first stands too late
-  pub reach-late : count ≤ table → ltb table (first + count) ≡ ltb (table - count) first
-  reach-late h = same-test table (first + count) (table - count) first (λ p. omega arith) (λ p. omega arith)
 
 -- the number of a schedule's points, and their place
 module _ (points : ℕ) (s : ScheduleWords) where

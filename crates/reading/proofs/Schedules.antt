@@ -1,15 +1,16 @@
 -- The schedules that a row names, in both formats: how many, which one, and those from one on.
-use Prim.Native.Nat.{ℕ, zero, suc, _+_, _*_, _≤_, _<_}
+use Prim.Native.Nat.{ℕ, zero, suc, _+_, _*_, _≤_, _<_, _^_}
 use mathlib.Core.Path.{_≡_, refl, sym, ap, _∙_}
 use mathlib.Core.List.{List, [], _∷_}
 use native.Mathlib.Numerals.{add-one}
 use native.Mathlib.Omega.{arith}
-use mathlib.Core.Bool.{false}
+use mathlib.Core.Bool.{Bool, true, false, cond}
 use borrow.Author.Tests.{eq-eqb, ne-eqb, lt-ltb, ltb-false}
+use lib.Dec.{eqb}
 use lib.ListN.{length, drop, getD, drop-of-length-le}
 use lib.Seq.{drop-cons, drop-drop}
-use Rattle.words.specs.Words.{entries}
-use Rattle.words.proofs.Words.{length-entries, entry-at}
+use Rattle.words.specs.Words.{Bytes, word32, entries}
+use Rattle.words.proofs.Words.{drop-bytes, numberAt-lt, length-entries, entry-at}
 use Rattle.reading.specs.Interval.{
   curvesFormat,
   market,
@@ -18,6 +19,9 @@ use Rattle.reading.specs.Interval.{
   RowWords,
   ScheduleWords,
   headerOf,
+  fileLayout,
+  rowWords,
+  rowWordsAt,
   scheduleWords,
   tableSchedules,
   asSchedule,
@@ -109,6 +113,40 @@ module _ (f : List ℕ) (w : RowWords) where
   -- from their number on, none is left
   pub none-left : (k : ℕ) → length (schedulesNamed f w) ≤ k → drop k (schedulesNamed f w) ≡ []
   none-left k beyond = drop-of-length-le (schedulesNamed f w) {i = k} beyond
+
+-- where the file is one of bytes, the word that names a row's first schedule or point fits into 32 bits
+pub row-first : (f : List ℕ) → Bytes f → (i : ℕ) → rowWordsAt f i .first < 2 ^ 32
+unfolding rowWordsAt rowWords word32
+row-first f bytes i =
+    let at = headerOf f .rowsOffset + fileLayout f .rowBytes * i in
+    omega (arith, numberAt-lt 4 (drop at f) 48 (drop-bytes at f bytes))
+
+-- and so does the one that names the first point of a schedule of a table
+table-first : (n : ℕ) (b : List ℕ) → Bytes b → (k : ℕ)
+    → getD (entries scheduleBytes scheduleWords n b) k noSchedule .first < 2 ^ 32
+unfolding entries scheduleWords word32
+table-first zero b bytes k = omega arith
+table-first (suc n) b bytes zero = omega (arith, numberAt-lt 4 b 4 bytes)
+table-first (suc n) b bytes (suc k) = table-first n (drop scheduleBytes b) (drop-bytes scheduleBytes b bytes) k
+
+-- in format 1 it is the row's
+own-first : (w : RowWords) → w .first < 2 ^ 32 → (k : ℕ) → getD (asSchedule w) k noSchedule .first < 2 ^ 32
+unfolding asSchedule
+own-first w small = by (eqb (w .count) 0)
+  where
+    by : (t : Bool) (k : ℕ) → getD (cond t [] (ownSchedule [] w ∷ [])) k noSchedule .first < 2 ^ 32
+    by true k = omega arith
+    by false zero = small
+    by false (suc k) = omega arith
+
+-- so it fits for each schedule that a row names
+pub schedule-first : (f : List ℕ) → Bytes f → (w : RowWords) → w .first < 2 ^ 32 → (k : ℕ)
+    → scheduleAt f w k .first < 2 ^ 32
+unfolding scheduleAt schedulesNamed tableSchedules
+schedule-first f bytes w small k =
+    let at = headerOf f .schedulesOffset + scheduleBytes * w .first in
+    let listed = table-first (w .count) (drop at f) (drop-bytes at f bytes) k in
+    in-either (λ (l : List ScheduleWords). getD l k noSchedule .first < 2 ^ 32) (own-first w small k) listed (headerOf f .format)
 
 -- schedules that do not reach beyond the table end within it, if the rows name schedules and this one names any
 pub schedules-end : (h : Header) (w : RowWords) → (h .format ≡ curvesFormat → ⊥) → schedulesBeyond h w ≡ false

@@ -18,7 +18,7 @@ use crate::rows::schedules;
 use crate::rows::table_schedule;
 ghost use mathlib.Core.Path.{_≡_};
 ghost use mathlib.Core.List.{_∷_, []};
-ghost use Prim.Native.Nat.{_+_, _*_, _≤_};
+ghost use Prim.Native.Nat.{_+_, _*_, _≤_, _<_, _^_};
 ghost use lib.ListN.{length};
 ghost use lib.Dec.{ltb};
 ghost use Rattle.words.specs.Lists.{any};
@@ -104,12 +104,10 @@ pub fn row_outside(row: Row) -> bool
 
 // Whether so many entries of a table, from one of them on, reach beyond it.
 fn reach_beyond(table: usize, first: usize, count: usize) -> bool
+    requires { ⌜ first + count < 2 ^ 64 ⌝ }
     ensures { λ r. ⌜ r ≡ ltb table (first + count) ⌝ }
 {
-    if table < count {
-        return true;
-    }
-    table - count < first
+    table < first + count
 }
 
 // Whether one of so many schedules of the file's table, from one of them on, is of no kind.
@@ -136,6 +134,7 @@ fn kinds_outside(file: &[u8], h: Header, first: usize, count: usize) -> bool
 fn schedules_outside(file: &[u8], h: Header, row: Row) -> bool
     requires { ⌜ Tabled (now file) h ⌝ }
     requires { ⌜ (h .format ≡ curvesFormat → ⊥) ⌝ }
+    requires { ⌜ row .first < 2 ^ 32 ⌝ }
     ensures { λ r. ⌜ r ≡ schedulesOutside (now (file .entry)) (rowIn row) ⌝ }
 {
     // Without schedules the word that names the first is free.
@@ -166,6 +165,7 @@ fn rows_naming(h: Header) -> usize
 
 // Whether a schedule's points are too few, too many, or reach beyond a table of so many.
 fn curve_misplaced(points: usize, s: Schedule) -> bool
+    requires { ⌜ s .first < 2 ^ 32 ⌝ }
     ensures { λ r. ⌜ r ≡ curveMisplaced points (scheduleIn s) ⌝ }
 {
     if s.points < 1 {

@@ -7,6 +7,7 @@ use native.Mathlib.Omega.{arith}
 use borrow.Author.Needs.{needs}
 use lib.ListN.{drop}
 use Rattle.words.specs.Lists.{any}
+use Rattle.words.specs.Words.{Bytes}
 use Rattle.reading.specs.Interval.{
   schedulesNamed,
   rowOutside,
@@ -18,6 +19,7 @@ use Rattle.reading.specs.Interval.{
 use Rattle.reading.specs.Values.{rowIn, scheduleIn}
 use Rattle.reading.proofs.Facts.{format-said, row-count, point-count}
 use Rattle.reading.proofs.RowsLeft.{curveLeft, words-start}
+use Rattle.reading.proofs.Schedules.{row-first, schedule-first}
 use Rattle.reading.proofs.SoundRows.{none-at, schedules-lie}
 use Rattle.reading.proofs.ScanTests.{
   names-schedules,
@@ -147,11 +149,16 @@ row-at-requires-2 c κs =
 
 schedules-outside-requires :
     tie.Need-schedules-outside-requires Inv-loop μ-loop Inv-loop2 μ-loop2 Inv-loop5 μ-loop5 Inv-loop4 μ-loop4 Inv-loop3 μ-loop3 Inv-scan μ-scan
+unfolding rowIn
 schedules-outside-requires c κs =
     let l = c .before .before in
     let r = l .before .before .before .before .before in
     let s = r .before .before in
-    (s .pre, names-schedules (s .args .h .format) (s .args .h .rows) (l .loop2 .m) (r .rows-naming .ensures) (omega arith) .0)
+    let f = s .args .file .now in
+    let other = names-schedules (s .args .h .format) (s .args .h .rows) (l .loop2 .m) (r .rows-naming .ensures) (omega arith) .0 in
+    let small = row-first f (λ i. omega (arith, r .before .shared-slice-known .given i)) (l .loop2 .m) in
+    let first = ap (λ w. w .first) (c .row-at2 .ensures) in
+    (s .pre, (other, omega (arith, first, small)))
 
 add-m :
     tie.Need-add-m Inv-loop μ-loop Inv-loop2 μ-loop2 Inv-loop5 μ-loop5 Inv-loop4 μ-loop4 Inv-loop3 μ-loop3 Inv-scan μ-scan
@@ -222,7 +229,19 @@ schedule-at-requires c κs =
 
 curve-misplaced-requires :
     tie.Need-curve-misplaced-requires Inv-loop μ-loop Inv-loop2 μ-loop2 Inv-loop5 μ-loop5 Inv-loop4 μ-loop4 Inv-loop3 μ-loop3 Inv-scan μ-scan
-curve-misplaced-requires c κs = search needs
+unfolding rowIn scheduleIn
+curve-misplaced-requires c κs =
+    let p = c .before .before in
+    let row = p .before .before .row-at3 in
+    let q = p .before .before .before .before .before in
+    let known = q .before .before .before .before .before .before .before .before in
+    let f = known .before .args .file .now in
+    let bytes : Bytes f = λ i. omega (arith, known .shared-slice-known .given i) in
+    let small = row-first f bytes (q .loop3 .n) in
+    let first = ap (λ w. w .first) (row .ensures) in
+    let read = ap (λ s. s .first) (c .schedule-at .ensures) in
+    let fits = schedule-first f bytes (rowIn (row .result)) (omega (arith, first, small)) (p .loop4 .k) in
+    omega (arith, read, fits)
 
 curve-requires :
     tie.Need-curve-requires Inv-loop μ-loop Inv-loop2 μ-loop2 Inv-loop5 μ-loop5 Inv-loop4 μ-loop4 Inv-loop3 μ-loop3 Inv-scan μ-scan

@@ -23,7 +23,7 @@ returns c =
     let s = c .before .before .before .before in
     let f = s .args .file .now in
     let w = rowIn (s .args .row) in
-    let two = other-said (s .pre .0 .read) (s .pre .1) in
+    let two = other-said (s .pre .0 .read) (s .pre .1 .0) in
     sym (none-dispatched f w two (omega arith))
 
 returns-2 : tie.Need-returns-2
@@ -32,7 +32,7 @@ returns-2 c =
     let s = c .before .before .before .before .before in
     let f = s .args .file .now in
     let w = rowIn (s .args .row) in
-    let two = other-said (s .pre .0 .read) (s .pre .1) in
+    let two = other-said (s .pre .0 .read) (s .pre .1 .0) in
     sym (schedules-above f w two (omega arith))
 
 returns-3 : tie.Need-returns-3
@@ -41,7 +41,7 @@ returns-3 c =
     let s = c .before .before .before .before .before .before .before in
     let f = s .args .file .now in
     let w = rowIn (s .args .row) in
-    let two = other-said (s .pre .0 .read) (s .pre .1) in
+    let two = other-said (s .pre .0 .read) (s .pre .1 .0) in
     sym (dispatched-late f w two (omega arith) (omega arith))
 
 reach-beyond-requires : tie.Need-reach-beyond-requires
@@ -53,7 +53,7 @@ returns-4 c =
     let s = c .before .before .before .before .before .before .before .before .before in
     let f = s .args .file .now in
     let w = rowIn (s .args .row) in
-    let two = other-said (s .pre .0 .read) (s .pre .1) in
+    let two = other-said (s .pre .0 .read) (s .pre .1 .0) in
     let table = ap (λ n. ltb n (w .first + w .count)) (sym (schedule-count (s .pre .0 .read))) in
     sym (schedules-beyond f w two (omega arith) (table ∙ sym (c .before .reach-beyond .ensures) ∙ c .if4 .taken))
 
@@ -68,7 +68,7 @@ returns-5 c =
     let s = c .before .before .before .before .before .before .before .before .before .before in
     let f = s .args .file .now in
     let w = rowIn (s .args .row) in
-    let two = other-said (s .pre .0 .read) (s .pre .1) in
+    let two = other-said (s .pre .0 .read) (s .pre .1 .0) in
     let e = c .before in
     let table = ap (λ n. ltb n (w .first + w .count)) (sym (schedule-count (s .pre .0 .read))) in
     let lies = table ∙ sym (e .before .reach-beyond .ensures) ∙ e .if4 .left in
