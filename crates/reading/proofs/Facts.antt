@@ -94,11 +94,6 @@ tables-lie from end rows points schedules e =
     table-lies : (from end : ℕ) (t : Table) → leaves from end t ≡ false → t .at + t .bytes ≤ end
     table-lies from end t e = stretch-lies from end (t .at) (t .bytes) e
 
--- a number that is the file's format, with the words of its header
-pub format-read : (f : List ℕ) {format : ℕ} → format ≡ headerOf f .format → fileLayout f .headerBytes ≤ length f
-    → (layoutOf format .headerBytes ≤ length f) × (format ≡ headerOf f .format)
-format-read f is long = (subst (λ n. layoutOf n .headerBytes ≤ length f) (sym is) long, is)
-
 -- a value of a file's header
 module _ {f : List ℕ} {h : HeaderValue} where
   -- that says its words is read from it, where ground 7 does not refuse the file

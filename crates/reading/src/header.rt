@@ -6,11 +6,14 @@ use crate::spans::not_of_formats;
 use words::number32;
 use words::signed;
 ghost use mathlib.Core.Path.{_≡_};
-ghost use Prim.Native.Nat.{_≤_, _<_, _^_};
+ghost use Prim.Native.Nat.{_+_, _≤_, _<_, _^_};
 ghost use lib.ListN.{length};
 ghost use Rattle.words.specs.Grounds.{beyond as beyondOf};
+ghost use Rattle.words.specs.Words.{numberAt};
 ghost use Rattle.reading.specs.Block.{leapYear};
 ghost use Rattle.reading.specs.Interval.{
+  curvesFormat,
+  byFormat,
   layoutOf,
   fileLayout,
   headerOf,
@@ -87,27 +90,14 @@ pub struct Header {
     pub schedules_at: usize,
 }
 
-// The number of schedules; none in format 1.
-fn schedule_count(file: &[u8], format: u64) -> usize
-    requires { ⌜ layoutOf format .headerBytes ≤ length (now file) ⌝ }
-    requires { ⌜ format ≡ headerOf (now file) .format ⌝ }
-    ensures { λ r. ⌜ r ≡ headerOf (now (file .entry)) .scheduleCount ⌝ }
+// A word that only format 2 has, at a byte offset of a header or a row; in format 1 what stands for it.
+pub fn schedules_word(b: &[u8], format: u64, at: usize, without: usize) -> usize
+    requires { ⌜ ((format ≡ curvesFormat → ⊥) → at + 4 ≤ length (now b)) ⌝ }
+    ensures { λ r. ⌜ r ≡ byFormat format without (numberAt 4 (now (b .entry)) at) ⌝ }
 {
     match format {
-        CURVES => 0,
-        _ => number32(file, 40) as usize,
-    }
-}
-
-// The offset of the schedules; in format 1 that of an empty table.
-fn schedule_offset(file: &[u8], format: u64) -> usize
-    requires { ⌜ layoutOf format .headerBytes ≤ length (now file) ⌝ }
-    requires { ⌜ format ≡ headerOf (now file) .format ⌝ }
-    ensures { λ r. ⌜ r ≡ headerOf (now (file .entry)) .schedulesOffset ⌝ }
-{
-    match format {
-        CURVES => 40,
-        _ => number32(file, 44) as usize,
+        CURVES => without,
+        _ => number32(b, at) as usize,
     }
 }
 
@@ -128,8 +118,8 @@ pub fn header_of(file: &[u8]) -> Header
         rows_at: number32(file, 28) as usize,
         points: number32(file, 32) as usize,
         points_at: number32(file, 36) as usize,
-        schedules: schedule_count(file, format),
-        schedules_at: schedule_offset(file, format),
+        schedules: schedules_word(file, format, 40, 0),
+        schedules_at: schedules_word(file, format, 44, 40),
     }
 }
 

@@ -6,6 +6,7 @@ use crate::header::Header;
 use crate::header::POINT_BYTES;
 use crate::header::SCHEDULE_BYTES;
 use crate::header::SCHEDULES_ROW_BYTES;
+use crate::header::schedules_word;
 use words::number32;
 use words::signed;
 ghost use mathlib.Core.Path.{_≡_};
@@ -84,17 +85,6 @@ pub struct Point {
     pub kw: u64,
 }
 
-// Which schedule a row was dispatched on, counted from its first; in format 1 there is no other.
-fn dispatched(row: &[u8], format: u64) -> usize
-    requires { ⌜ layoutOf format .rowBytes ≤ length (now row) ⌝ }
-    ensures { λ r. ⌜ r ≡ rowWords format (now (row .entry)) .dispatched ⌝ }
-{
-    match format {
-        CURVES => 0,
-        _ => number32(row, 56) as usize,
-    }
-}
-
 // The row at the front of a part of a file.
 fn row_of(row: &[u8], format: u64) -> Row
     requires { ⌜ layoutOf format .rowBytes ≤ length (now row) ⌝ }
@@ -115,7 +105,7 @@ fn row_of(row: &[u8], format: u64) -> Row
         lmp: signed(number32(row, 44)),
         first: number32(row, 48) as usize,
         count: number32(row, 52) as usize,
-        dispatched: dispatched(row, format),
+        dispatched: schedules_word(row, format, 56, 0),
     }
 }
 

@@ -1,13 +1,13 @@
 -- `reading::header::header_of` meets its contract. Each word is the number at its place.
 use Prim.Native.Nat.{_≤_}
+use mathlib.Core.Path.{ap, _∙_}
 use native.Mathlib.Omega.{arith}
 use borrow.Author.Needs.{needs}
 use lib.ListN.{length}
 use Rattle.words.specs.Words.{word32}
-use Rattle.reading.specs.Interval.{headerOf}
+use Rattle.reading.specs.Interval.{byFormat, headerOf}
 use Rattle.reading.specs.Values.{headerIn}
-use Rattle.reading.proofs.Layouts.{header-least}
-use Rattle.reading.proofs.Facts.{format-read}
+use Rattle.reading.proofs.Layouts.{header-least, header-twelve}
 use Rattle.reading.proofs.Parts.{signed-field}
 use Rattle.reading.proofs.header.header_of.Statement.{statement}
 use Rattle.reading.proofs.header.header_of.Tie as tie
@@ -55,17 +55,17 @@ number32-requires-10 c κs =
     let e = c .before .before .before .before .before .before .before .before .before in
     omega (arith, long (e .before .before))
 
-schedule-count-requires : tie.Need-schedule-count-requires
+schedules-word-requires : tie.Need-schedules-word-requires
 unfolding headerOf word32
-schedule-count-requires c κs =
+schedules-word-requires c κs other =
     let e = c .before .before .before .before .before .before .before .before .before .before in
-    format-read _ (e .number32 .ensures .0) (e .before .before .pre)
+    omega (arith, header-twelve (λ same. other (e .number32 .ensures .0 ∙ same)), e .before .before .pre)
 
-schedule-offset-requires : tie.Need-schedule-offset-requires
+schedules-word-requires-2 : tie.Need-schedules-word-requires-2
 unfolding headerOf word32
-schedule-offset-requires c κs =
+schedules-word-requires-2 c κs other =
     let e = c .before .before .before .before .before .before .before .before .before .before .before in
-    format-read _ (e .number32 .ensures .0) (e .before .before .pre)
+    omega (arith, header-twelve (λ same. other (e .number32 .ensures .0 ∙ same)), e .before .before .pre)
 
 returns : tie.Need-returns
 unfolding headerIn headerOf word32
@@ -76,8 +76,13 @@ returns c =
     let imports = w10 .before .before .before .before .signed in
     let word = w6 .number326 .ensures .0 in
     let sixth = signed-field (imports .result) (imports .ensures .0) (imports .ensures .1) word in
+    let w0 = w5 .before .before .before .before in
+    let file = w0 .before .before .args .file .now in
+    let format = w0 .number32 .ensures .0 in
+    let tenth = c .before .schedules-word .ensures ∙ ap (λ k. byFormat k 0 (word32 file 10)) format in
+    let eleventh = c .schedules-word2 .ensures ∙ ap (λ k. byFormat k 40 (word32 file 11)) format in
     λ x. record {
-      format = w5 .before .before .before .before .number32 .ensures .0 x;
+      format = format x;
       interval = w5 .before .before .before .number322 .ensures .0 x;
       netCone = w5 .before .before .number323 .ensures .0 x;
       days = w5 .before .number324 .ensures .0 x;
@@ -87,8 +92,8 @@ returns c =
       rowsOffset = w10 .before .before .number328 .ensures .0 x;
       pointCount = w10 .before .number329 .ensures .0 x;
       pointsOffset = w10 .number3210 .ensures .0 x;
-      scheduleCount = c .before .schedule-count .ensures x;
-      schedulesOffset = c .schedule-offset .ensures x;
+      scheduleCount = tenth x;
+      schedulesOffset = eleventh x;
     }
 
 pub header-of-spec : {M : Type 1} → statement M
@@ -106,6 +111,6 @@ header-of-spec =
     number32-requires-8
     number32-requires-9
     number32-requires-10
-    schedule-count-requires
-    schedule-offset-requires
+    schedules-word-requires
+    schedules-word-requires-2
     returns)

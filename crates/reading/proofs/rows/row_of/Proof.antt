@@ -6,7 +6,7 @@ use lib.ListN.{length}
 use Rattle.words.specs.Words.{word32}
 use Rattle.reading.specs.Interval.{rowWords}
 use Rattle.reading.specs.Values.{rowIn}
-use Rattle.reading.proofs.Layouts.{row-least}
+use Rattle.reading.proofs.Layouts.{row-least, row-fifteen}
 use Rattle.reading.proofs.Parts.{signed-field}
 use Rattle.reading.proofs.rows.row_of.Statement.{statement}
 use Rattle.reading.proofs.rows.row_of.Tie as tie
@@ -82,10 +82,10 @@ number32-requires-14 c κs =
     let e = c .before .before .before .before .before .before .before .before .before in
     omega (arith, long (e .before .before .before .before .before .before .before .before))
 
-dispatched-requires : tie.Need-dispatched-requires
-dispatched-requires c κs =
+schedules-word-requires : tie.Need-schedules-word-requires
+schedules-word-requires c κs other =
     let e = c .before .before .before .before .before .before .before .before .before in
-    e .before .before .before .before .before .before .before .before .before .pre
+    omega (arith, e .before .before .before .before .before .before .before .before .before .pre, row-fifteen other)
 
 returns : tie.Need-returns
 unfolding rowIn rowWords word32
@@ -119,7 +119,7 @@ returns c =
       lmp = twelfth x;
       first = w14 .before .number3213 .ensures .0 x;
       count = w14 .number3214 .ensures .0 x;
-      dispatched = c .dispatched .ensures x;
+      dispatched = c .schedules-word .ensures x;
     }
 
 pub row-of-spec : {M : Type 1} → statement M
@@ -143,5 +143,5 @@ row-of-spec =
     signed-requires-3
     number32-requires-13
     number32-requires-14
-    dispatched-requires
+    schedules-word-requires
     returns)
