@@ -70,6 +70,7 @@ fn samples_are_complete() {
         "opening",
         "opening_1",
         "opening_2",
+        "opening_23",
         "opening_3",
         "opening_length",
         "refusals",
@@ -246,6 +247,7 @@ fn refusals_show_every_ground() {
         ("opening_length", 1),
         ("opening_2", 2),
         ("opening_3", 3),
+        ("opening_23", 23),
         ("opening", 4),
     ] {
         let listing = format!("{HEADING}refused,0,{ground}\n");
