@@ -1,4 +1,5 @@
--- The assessment of one interval, rule by rule, over rows and accounts. Figures are kW but for limit, charge, pool, credit and carried, which are cents.
+-- The assessment of one interval, rule by rule, over rows and accounts.
+-- Figures are kW but for limit, charge, pool, credit and carried, which are cents.
 use Prim.Native.Nat.{ℕ, _+_, _-_, _*_, _/_, min, max}
 use mathlib.Core.List.{List, [], _∷_, map}
 use mathlib.Core.Bool.{Bool, true, false, cond, not}
@@ -57,7 +58,8 @@ unfoldable pub fromLastReached : ℤ → List Point → List Point
 fromLastReached lmp [] = []
 fromLastReached lmp (p ∷ ps) = orElse (fromLastReached lmp ps) (cond (leZ (p .price) lmp) (p ∷ ps) [])
 
--- on the curve from that point on: its kW if it is the final one, else on towards the next in proportion to price, rounded down
+-- on the curve from that point on: its kW if it is the final one,
+-- else on towards the next in proportion to price, rounded down
 unfoldable pub alongCurve : ℤ → List Point → ℕ
 alongCurve lmp [] = 0
 alongCurve lmp (p ∷ []) = p .kw
@@ -72,7 +74,8 @@ lastPrice p (q ∷ qs) = lastPrice q qs
 unfoldable pub minimumOnline : Row → ℕ
 minimumOnline r = cond (eqb (r .online) 1) (r .minimum) 0
 
--- Scheduled, by a curve: no points; an LMP below the first price; above the last; else along the curve, raised to the minimum if online and cut to the maximum
+-- Scheduled, by a curve: no points; an LMP below the first price; above the last;
+-- else along the curve, raised to the minimum if online and cut to the maximum
 unfoldable pub scheduledBy : List Point → Row → ℕ
 scheduledBy [] r = r .committed
 scheduledBy (p ∷ ps) r =
@@ -139,7 +142,8 @@ economicBy (s ∷ ss) r = max (scheduledBy (s .curve) r) (highest (s .kind) r (r
 unfoldable pub economicScheduled : Row → ℕ
 economicScheduled r = economicBy (dispatchedOn r) r
 
--- Considered, by the event's region-wide word: PRD if its last point at or below the LMP is above 0 kW, importers if region-wide, other kinds always
+-- Considered, by the event's region-wide word: PRD if its last point at or below the LMP is above 0 kW,
+-- importers if region-wide, other kinds always
 unfoldable pub consideredAs : Kind → ℕ → Row → Bool
 consideredAs generation regionWide r = true
 consideredAs demand regionWide r = true
@@ -162,7 +166,8 @@ pub record Ratio : Type 0 where
   pub numerator : ℕ
   pub denominator : ℕ
 
--- the part of a whole that a ratio gives: multiplied, divided and rounded down once; at most the whole, and 0 without a denominator
+-- the part of a whole that a ratio gives: multiplied, divided and rounded down once;
+-- at most the whole, and 0 without a denominator
 unfoldable pub portion : Ratio → ℕ → ℕ
 portion q whole = cond (eqb (q .denominator) 0) 0 (min (whole * q .numerator / q .denominator) whole)
 
@@ -194,7 +199,8 @@ bonusActualAs noKind r = 0
 unfoldable pub bonus : Row → ℕ → ℕ
 bonus r expect = bonusActualAs (kindOf (r .kind)) r - expect
 
--- what a row adds to the numerator: its actual for kinds 0 and 4, its bonus for kinds 1 and 3, of which the committed kW are expected
+-- what a row adds to the numerator: its actual for kinds 0 and 4, its bonus for kinds 1 and 3,
+-- of which the committed kW are expected
 unfoldable pub numeratorShareAs : Kind → Row → ℕ
 numeratorShareAs generation r = actual r
 numeratorShareAs demand r = bonus r (r .committed)
@@ -322,16 +328,21 @@ raised kw a = record { id = a .id; largest = max (a .largest) kw; charged = a .c
 
 -- an account with a charge and a credit added
 unfoldable pub added : ℕ → ℕ → Account → Account
-added charge credit a = record { id = a .id; largest = a .largest; charged = a .charged + charge; credited = a .credited + credit }
+added charge credit a =
+    record { id = a .id; largest = a .largest; charged = a .charged + charge; credited = a .credited + credit }
 
 -- the divisors of a year's limits and charges
 pub record Divisors : Type 0 where
   pub limit : ℕ
   pub charge : ℕ
 
--- by the year; of a limit: 2 from the three halves, or 4 from three quarters, and 1000 kW to the MW; of a charge: 1000 kW to the MW, 30 hours, 12 intervals an hour, doubled where the charge is halved
+-- by the year; of a limit: 2 from the three halves, or 4 from three quarters, and 1000 kW to the MW; of a charge:
+-- 1000 kW to the MW, 30 hours, 12 intervals an hour, doubled where the charge is halved
 unfoldable pub divisors : Terms → Divisors
-divisors t = cond (eqb (t .year) transitionYear) (record { limit = 4000; charge = 720000 }) (record { limit = 2000; charge = 360000 })
+divisors t =
+    cond (eqb (t .year) transitionYear)
+    (record { limit = 4000; charge = 720000 })
+    (record { limit = 2000; charge = 360000 })
 
 -- three times Net CONE times days times kW over a divisor, rounded down
 unfoldable pub limitOver : ℕ → Terms → ℕ → ℕ
@@ -359,11 +370,16 @@ pub record ChargedRow : Type 0 where
   pub figures : RowFigures
   pub charge : ℕ
 
--- a row of an event, with its charge to its account as it stood before the interval; one not considered has no shortfall, and so no charge
+-- a row of an event, with its charge to its account as it stood before the interval;
+-- one not considered has no shortfall, and so no charge
 unfoldable pub chargedRow : Terms → List Account → ℕ → Ratio → Row → ChargedRow
 chargedRow t accounts regionWide q r =
     let figures = rowFigures regionWide q r in
-    record { row = r; figures = figures; charge = charge t (raised (r .committed) (accountOf (r .id) accounts)) (figures .shortfall) }
+    record {
+      row = r;
+      figures = figures;
+      charge = charge t (raised (r .committed) (accountOf (r .id) accounts)) (figures .shortfall);
+    }
 
 -- an interval: the ratio, the charged rows in file order, and the cents carried into it
 pub record Assessed : Type 0 where
@@ -389,7 +405,8 @@ totalBonus v = sum (λ c. c .figures .bonus) (v .rows)
 unfoldable pub pool : Assessed → ℕ
 pool v = v .carried + charges v
 
--- a share of so many cents by bonus, multiplied before it is divided by the total, and rounded down; with no bonus nothing is shared
+-- a share of so many cents by bonus, multiplied before it is divided by the total, and rounded down;
+-- with no bonus nothing is shared
 unfoldable pub share : ℕ → ℕ → ℕ → ℕ
 share cents total kw = cond (eqb total 0) 0 (kw * cents / total)
 

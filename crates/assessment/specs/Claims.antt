@@ -28,4 +28,6 @@ WithinTariff t kw cents = 100 * (1000 * cents) ≤ hundredths t * (t .netCone * 
 
 -- The limit is the most whole cents that the tariff allows
 unfoldable pub LimitOfTariff : Type 0
-LimitOfTariff = (t : Terms) (kw cents : ℕ) → (cents ≤ limit t kw → WithinTariff t kw cents) × (WithinTariff t kw cents → cents ≤ limit t kw)
+LimitOfTariff =
+    (t : Terms) (kw cents : ℕ)
+    → (cents ≤ limit t kw → WithinTariff t kw cents) × (WithinTariff t kw cents → cents ≤ limit t kw)

@@ -97,7 +97,11 @@ withBonus kw = record {
 
 -- a pool of 557628 cents over bonuses of 30000 and 10001 kW
 unfoldable pub shared : Assessed
-shared = record { ratio = record { numerator = 0; denominator = 0 }; rows = withBonus 30000 ∷ withBonus 10001 ∷ []; carried = 557628 }
+shared = record {
+  ratio = record { numerator = 0; denominator = 0 };
+  rows = withBonus 30000 ∷ withBonus 10001 ∷ [];
+  carried = 557628;
+}
 
 -- an account with a largest commitment and cents charged
 abbrev pub account : ℕ → ℕ → Account
@@ -148,7 +152,9 @@ row11 = row 0 100000 110000 (pos 60000) 10000 0 110000 20000 1 (pos 3000) curveA
 
 -- row 12
 unfoldable pub row12 : Row
-row12 = adjusted 0 50000 60000 (pos 20000) (pos 5000) 0 35000 25000 10000 1 (pos 6001) (at (pos 1000) 10000 ∷ at (pos 6000) 50000 ∷ [])
+row12 =
+    adjusted 0 50000 60000 (pos 20000) (pos 5000) 0 35000 25000 10000 1 (pos 6001)
+    (at (pos 1000) 10000 ∷ at (pos 6000) 50000 ∷ [])
 
 -- row 13
 unfoldable pub row13 : Row
@@ -164,7 +170,8 @@ listingRows = row11 ∷ row12 ∷ row13 ∷ row14 ∷ []
 
 -- a row on curve A, scheduled to 60000 kW: kind, owned, metered, planned, forced and maximum
 abbrev pub at60 : ℕ → ℕ → ℤ → ℕ → ℕ → ℕ → Row
-at60 kind owned metered planned forced maximum = row kind 100000 owned metered planned forced maximum 20000 1 (pos 3000) curveA
+at60 kind owned metered planned forced maximum =
+    row kind 100000 owned metered planned forced maximum 20000 1 (pos 3000) curveA
 
 -- a row without points that gave 35000 kW: kind, committed, owned, planned, forced and maximum
 abbrev pub withoutCurve : ℕ → ℕ → ℕ → ℕ → ℕ → ℕ → Row
@@ -198,7 +205,8 @@ imported regionWide = rowFigures regionWide (over 1 1) (importing (pos 10000) (n
 -- an importer of 30000 kW and a demand resource with a bonus of 10001, with 557628 cents carried into an event
 unfoldable pub sharedWithImporter : ℕ → Assessed
 sharedWithImporter regionWide =
-    assessed (terms 30000) [] 557628 (headerWith 1000 365 regionWide (pos 0)) (importing (pos 30000) (pos 0) ∷ row14 ∷ [])
+    assessed (terms 30000) [] 557628 (headerWith 1000 365 regionWide (pos 0))
+    (importing (pos 30000) (pos 0) ∷ row14 ∷ [])
 
 -- the importer of these, charged nothing
 unfoldable pub importerOf : ℕ → ChargedRow
@@ -258,15 +266,19 @@ prdOfTwo dispatched = offering (giving market 0 ∷ giving cost 3000 ∷ []) dis
 unfoldable pub unshared : Assessed
 unshared = record { ratio = over 0 0; rows = withBonus 0 ∷ []; carried = 557628 }
 
--- a PRD row of 3000 kW with one point at 500 cents, of which the LMP and the metered kW are given, charged at 30000 cents
+-- a PRD row of 3000 kW with one point at 500 cents, of which the LMP and the metered kW are given,
+-- charged at 30000 cents
 unfoldable pub onePoint : ℤ → ℤ → ChargedRow
 onePoint lmp metered =
-    chargedRow (terms 30000) (account 3000 0 ∷ []) 0 (over 1 1) (row 3 3000 0 metered 0 0 0 0 0 lmp (at (pos 500) 5 ∷ []))
+    chargedRow (terms 30000) (account 3000 0 ∷ []) 0 (over 1 1)
+    (row 3 3000 0 metered 0 0 0 0 0 lmp (at (pos 500) 5 ∷ []))
 
--- a demand resource 1 kW short of a commitment, charged at 30000 cents to an account with a largest commitment and 16400 cents charged
+-- a demand resource 1 kW short of a commitment,
+-- charged at 30000 cents to an account with a largest commitment and 16400 cents charged
 unfoldable pub oneShort : ℕ → ℕ → ChargedRow
 oneShort committed largest =
-    chargedRow (terms 30000) (account largest 16400 ∷ []) 0 (over 1 1) (row 1 (suc committed) 0 (pos committed) 0 0 0 0 0 (pos 0) [])
+    chargedRow (terms 30000) (account largest 16400 ∷ []) 0 (over 1 1)
+    (row 1 (suc committed) 0 (pos committed) 0 0 0 0 0 (pos 0) [])
 
 -- figures that tell each rule from the wrong ones nearest to it, in document 01's order
 unfoldable pub workedFigures : List Figure
@@ -302,7 +314,8 @@ workedFigures =
     -- the economic rule then takes the committed kW
     ∷ economicScheduled (withoutCurve 4 0 40000 0 0 40000) gives 0
     ∷ economicScheduled (withoutCurve 0 7 40000 0 0 40000) gives 7
-    -- dispatched on market the economic rule takes the highest of all schedules, on PLS that of PLS and cost, on cost that one's
+    -- dispatched on market the economic rule takes the highest of all schedules, on PLS that of PLS and cost,
+    -- on cost that one's
     ∷ economicScheduled (unit 0 (pos 0) (ofEach 90000 70000 60000) 0) gives 90000
     ∷ economicScheduled (unit 0 (pos 0) (ofEach 90000 70000 60000) 1) gives 70000
     ∷ economicScheduled (unit 0 (pos 0) (ofEach 90000 70000 60000) 2) gives 60000
@@ -421,7 +434,8 @@ workedFigures =
     -- available: owned minus both outages, and 0 if that is negative
     ∷ available (at60 0 110000 (pos 0) 7000 5000 110000) gives 98000
     ∷ available (at60 0 20000 (pos 0) 15000 15000 110000) gives 0
-    -- economic goes up to the emergency maximum, the expected kW or the owned kW, and from the greater of scheduled and actual on
+    -- economic goes up to the emergency maximum, the expected kW or the owned kW,
+    -- and from the greater of scheduled and actual on
     ∷ economic (at60 0 110000 (pos 50000) 0 0 70000) 100000 gives 10000
     ∷ economic (at60 0 110000 (pos 50000) 0 0 110000) 65000 gives 5000
     ∷ economic (at60 0 62000 (pos 50000) 0 0 110000) 100000 gives 2000
@@ -439,7 +453,8 @@ workedFigures =
     ∷ oneShort 0 1 .charge gives 25
     ∷ oneShort 0 2 .charge gives 30
     ∷ oneShort 1 1 .charge gives 30
-    -- a charge is to the nearest cent: exactly half a cent goes up (36.5), less goes down (36.4635), more goes up (557628.75)
+    -- a charge is to the nearest cent: exactly half a cent goes up (36.5), less goes down (36.4635),
+    -- more goes up (557628.75)
     ∷ fullCharge (terms 36) 1000 gives 37
     ∷ fullCharge (terms 36) 999 gives 36
     ∷ fullCharge (terms 30000) 18333 gives 557629

@@ -1,4 +1,5 @@
--- What the values of the code say, as the records that the definitions speak of; and the most that figures of an accepted file are.
+-- What the values of the code say, as the records that the definitions speak of;
+-- and the most that figures of an accepted file are.
 use Prim.Native.Nat.{ℕ, _+_, _*_}
 use Rattle.reading.specs.Block.{Terms, mostNetCone, leapYear}
 use Rattle.reading.specs.Interval.{mostKilowatts, mostImports, mostRows}

@@ -11,7 +11,14 @@ ghost use Prim.Native.Nat.{_+_, _≤_, _<_, _^_};
 ghost use Rattle.reading.specs.Block.{termsOutside};
 ghost use Rattle.reading.specs.Interval.{mostKilowatts};
 ghost use Rattle.reading.specs.Values.{termsIn};
-ghost use Rattle.assessment.specs.Assessment.{emptyAccount, raised as raisedOf, added as addedOf, limit as limitOf, fullCharge, charge as chargeOf};
+ghost use Rattle.assessment.specs.Assessment.{
+  emptyAccount,
+  raised as raisedOf,
+  added as addedOf,
+  limit as limitOf,
+  fullCharge,
+  charge as chargeOf,
+};
 ghost use Rattle.assessment.specs.Values.{accountIn};
 
 // The most kW of a row or an account.

@@ -1,4 +1,5 @@
-// What a row's schedules say at its LMP: what a bonus is cut to, what the economic rule takes, whether PRD is considered.
+// What a row's schedules say at its LMP: what a bonus is cut to, what the economic rule takes,
+// whether PRD is considered.
 
 use crate::curve::consumes;
 use crate::curve::scheduled;

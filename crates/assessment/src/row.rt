@@ -1,4 +1,5 @@
-// The six figures of a row, and what it adds to the ratio: a match on the kind word chooses expected, bonus cut, excusals and numerator share.
+// The six figures of a row, and what it adds to the ratio: a match on the kind word chooses expected, bonus cut,
+// excusals and numerator share.
 
 use crate::offer::available;
 use crate::offer::considered;
@@ -64,7 +65,8 @@ fn expected(row: Row, ratio: Ratio) -> Kilowatts
 }
 
 // The figures of a row of kind 0 or 4: its outage and the economic rule excuse it, and its actual is cut for the bonus.
-// Economic is how far the least of emergency maximum, expected and available stands above the greater of scheduled and actual.
+// Economic is how far the least of emergency maximum, expected and available
+// stands above the greater of scheduled and actual.
 fn produced(file: &[u8], h: Header, row: Row, act: Kilowatts, expect: Kilowatts) -> Figures
     requires { ⌜ Tabled (now file) h ⌝ }
     requires { ⌜ Sound (now file) (rowIn row) ⌝ }
@@ -134,7 +136,8 @@ pub fn row_figures(file: &[u8], h: Header, row: Row, ratio: Ratio) -> Figures
     requires { ⌜ Tabled (now file) h ⌝ }
     requires { ⌜ Sound (now file) (rowIn row) ⌝ }
     requires { ⌜ ratio .numerator .0 ≤ mostNumerator ⌝ }
-    ensures { λ r. ⌜ figuresIn r ≡ rowFigures (h .«region_wide») (ratioIn ratio) (rowOf (now (file .entry)) (rowIn row)) ⌝ }
+    ensures { λ r.
+        ⌜ figuresIn r ≡ rowFigures (h .«region_wide») (ratioIn ratio) (rowOf (now (file .entry)) (rowIn row)) ⌝ }
 {
     let act = actual(row);
     let expect = expected(row, ratio);

@@ -1,4 +1,5 @@
-// Document 01's listing, and the cases that it does not mark (P), through opening and settling as C calls them: each answer, and the words that a call leaves. The buffers begin with every byte 255.
+// Document 01's listing, and the cases that it does not mark (P), through opening and settling as C calls them:
+// each answer, and the words that a call leaves. The buffers begin with every byte 255.
 
 mod left;
 
@@ -20,8 +21,12 @@ ghost use Rattle.settling.specs.Figures.{listingFile};
 // Settles the listing's file at an interval, and prints the answer.
 fn settle(label: &[u8], ledger: &mut [u8], interval: u64, result: &mut [u8])
     requires { ⌜ length (now label) ≤ labelRoom ⌝ }
-    ensures { λ _. ⌜ now (ledger .exit) ≡ settling (now (ledger .entry)) (listingFile interval 0 0) (now (result .entry)) .ledger ⌝ }
-    ensures { λ _. ⌜ now (result .exit) ≡ settling (now (ledger .entry)) (listingFile interval 0 0) (now (result .entry)) .result ⌝ }
+    ensures { λ _.
+        ⌜ now (ledger .exit)
+        ≡ settling (now (ledger .entry)) (listingFile interval 0 0) (now (result .entry)) .ledger ⌝ }
+    ensures { λ _.
+        ⌜ now (result .exit)
+        ≡ settling (now (ledger .entry)) (listingFile interval 0 0) (now (result .entry)) .result ⌝ }
 {
     figure(label, npa_settle(ledger, &file(interval), result) as u64);
 }

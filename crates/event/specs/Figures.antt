@@ -55,7 +55,12 @@ pub record EventFigures : Type 0 where
   pub answers-and-counts : AllAsStated eventFigures
   -- the listing's file by itself: every byte, with a count buffer four bytes longer than it need be
   pub settled : event openedListing (listingFramed 1000) (buffer 328) (buffer 12)
-      ≡ record { ground = 0; ledger = settledListing; result = resultListing; count = bytesOfWords 8 (1 ∷ []) ++ buffer 4 }
+      ≡ record {
+        ground = 0;
+        ledger = settledListing;
+        result = resultListing;
+        count = bytesOfWords 8 (1 ∷ []) ++ buffer 4;
+      }
   -- the same file again is refused: ledger and result are those of the first, and the count is written
   pub refused : event openedListing (listingFramed 1000 ++ listingFramed 1000) (buffer 328) (buffer 8)
       ≡ record { ground = 10; ledger = settledListing; result = resultListing; count = bytesOfWords 8 (1 ∷ []) }

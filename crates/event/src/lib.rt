@@ -85,7 +85,8 @@ fn settle_next(ledger: &mut [u8], file: &[u8], result: &mut [u8], filled: usize)
 fn settle_files(ledger: &mut [u8], files: &[u8], result: &mut [u8]) -> Settled
     ensures { λ r. ⌜
         FilesSettled
-        (settledFiles (length (now (files .entry)) + 1) (now (ledger .entry)) (now (files .entry)) (now (result .entry)))
+        (settledFiles (length (now (files .entry)) + 1)
+        (now (ledger .entry)) (now (files .entry)) (now (result .entry)))
         (now (ledger .exit)) (now (result .exit)) r
         ⌝ }
 {
@@ -122,10 +123,17 @@ fn settle_files(ledger: &mut [u8], files: &[u8], result: &mut [u8]) -> Settled
 // Settles an event, and writes how many of its files were settled: answers 0, the ground of the first file refused,
 // or 20 where there is no room for that number.
 pub fn settle_event(ledger: &mut [u8], files: &[u8], result: &mut [u8], count: &mut [u8]) -> u32
-    ensures answer { λ r. ⌜ r ≡ eventOf (now (ledger .entry)) (now (files .entry)) (now (result .entry)) (now (count .entry)) .ground ⌝ }
-    ensures ledger_bytes { λ _. ⌜ now (ledger .exit) ≡ eventOf (now (ledger .entry)) (now (files .entry)) (now (result .entry)) (now (count .entry)) .ledger ⌝ }
-    ensures result_bytes { λ _. ⌜ now (result .exit) ≡ eventOf (now (ledger .entry)) (now (files .entry)) (now (result .entry)) (now (count .entry)) .result ⌝ }
-    ensures count_bytes { λ _. ⌜ now (count .exit) ≡ eventOf (now (ledger .entry)) (now (files .entry)) (now (result .entry)) (now (count .entry)) .count ⌝ }
+    ensures answer { λ r.
+        ⌜ r ≡ eventOf (now (ledger .entry)) (now (files .entry)) (now (result .entry)) (now (count .entry)) .ground ⌝ }
+    ensures ledger_bytes { λ _.
+        ⌜ now (ledger .exit)
+        ≡ eventOf (now (ledger .entry)) (now (files .entry)) (now (result .entry)) (now (count .entry)) .ledger ⌝ }
+    ensures result_bytes { λ _.
+        ⌜ now (result .exit)
+        ≡ eventOf (now (ledger .entry)) (now (files .entry)) (now (result .entry)) (now (count .entry)) .result ⌝ }
+    ensures count_bytes { λ _.
+        ⌜ now (count .exit)
+        ≡ eventOf (now (ledger .entry)) (now (files .entry)) (now (result .entry)) (now (count .entry)) .count ⌝ }
 {
     if count.len() < COUNT_BYTES {
         return 20;

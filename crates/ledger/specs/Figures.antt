@@ -98,7 +98,8 @@ ledgerWith format earliest carried offset last accounts =
 
 -- a ledger of so many days and a year, with one account: its largest commitment, and as much charged as is carried
 unfoldable pub ledgerOfYear : ℕ → ℕ → ℕ → ℕ → List ℕ
-ledgerOfYear days year largest charged = bytesOfWords 8 (1 ∷ 30000 ∷ days ∷ 7 ∷ charged ∷ 1 ∷ 8 ∷ year ∷ 1 ∷ largest ∷ charged ∷ 0 ∷ [])
+ledgerOfYear days year largest charged =
+    bytesOfWords 8 (1 ∷ 30000 ∷ days ∷ 7 ∷ charged ∷ 1 ∷ 8 ∷ year ∷ 1 ∷ largest ∷ charged ∷ 0 ∷ [])
 
 -- whether a buffer is refused on ground 6
 unfoldable pub refusedOn6 : List ℕ → ℕ
@@ -143,14 +144,21 @@ ledgerFigures =
     ∷ refusedOn6 (ledgerOfYear 365 2018 1000 16425000) gives 0
     ∷ refusedOn6 (ledgerOfYear 365 2018 1000 16425001) gives 1
     -- carried cents at their most, and one more
-    ∷ refusedOn6 (ledgerWith 1 7 1099511627775 8 0 (1 ∷ 4000000 ∷ 439200000000 ∷ 0 ∷ 2 ∷ 4000000 ∷ 439200000000 ∷ 0 ∷ 3 ∷ 4000000 ∷ 221111627775 ∷ 0 ∷ [])) gives 0
-    ∷ refusedOn6 (ledgerWith 1 7 1099511627776 8 0 (1 ∷ 4000000 ∷ 439200000000 ∷ 0 ∷ 2 ∷ 4000000 ∷ 439200000000 ∷ 0 ∷ 3 ∷ 4000000 ∷ 221111627776 ∷ 0 ∷ [])) gives 1
+    ∷ refusedOn6
+    (ledgerWith 1 7 1099511627775 8 0
+    (1 ∷ 4000000 ∷ 439200000000 ∷ 0 ∷ 2 ∷ 4000000 ∷ 439200000000 ∷ 0 ∷ 3 ∷ 4000000 ∷ 221111627775 ∷ 0 ∷ []))
+    gives 0
+    ∷ refusedOn6
+    (ledgerWith 1 7 1099511627776 8 0
+    (1 ∷ 4000000 ∷ 439200000000 ∷ 0 ∷ 2 ∷ 4000000 ∷ 439200000000 ∷ 0 ∷ 3 ∷ 4000000 ∷ 221111627776 ∷ 0 ∷ []))
+    gives 1
     ∷ []
 
 -- all figures of opening and of ground 6
 pub record LedgerFigures : Type 0 where
   pub opened : opening listingBlock (buffer 200) ≡ record { ground = 0; ledger = openedListing }
-  pub opened-2016 : opening (datedWith 30000 365 2016 (11 ∷ [])) (buffer 96) ≡ record { ground = 0; ledger = opened2016 }
+  pub opened-2016 : opening (datedWith 30000 365 2016 (11 ∷ [])) (buffer 96)
+      ≡ record { ground = 0; ledger = opened2016 }
   pub opening-figures : AllAsStated openingFigures
   pub opening-order : AllAsStated openingOrder
   pub ledger-figures : AllAsStated ledgerFigures

@@ -31,7 +31,8 @@ accountsOffset = 8
 abbrev pub mostCredited : ℕ
 mostCredited = 224870400000000
 
--- what stands before the accounts: terms, with the year in word 7, the earliest interval still accepted, carried cents, and the number of accounts
+-- what stands before the accounts: terms, with the year in word 7, the earliest interval still accepted, carried cents,
+-- and the number of accounts
 pub record Standing : Type 0 where
   pub terms : Terms
   pub earliest : ℕ
@@ -91,7 +92,8 @@ standingWords s =
 -- the words of a ledger: the header's eight, then each account's four
 unfoldable pub ledgerWords : Ledger → List ℕ
 ledgerWords l =
-    standingWords (record { terms = l .terms; earliest = l .earliest; carried = l .carried; accountCount = length (l .accounts) })
+    standingWords
+    (record { terms = l .terms; earliest = l .earliest; carried = l .carried; accountCount = length (l .accounts) })
     ++ accountWords (l .accounts)
 
 -- the ids of a ledger
@@ -108,13 +110,15 @@ ledgerTermsOutside t = termsOutside t || (not (eqb (t .year) 0) && yearOutside t
 
 -- an account's commitment, charged sum or credited sum is too large
 unfoldable pub accountOutside : Terms → Account → Bool
-accountOutside t a = ltb mostKilowatts (a .largest) || ltb (limit t (a .largest)) (a .charged) || ltb mostCredited (a .credited)
+accountOutside t a =
+    ltb mostKilowatts (a .largest) || ltb (limit t (a .largest)) (a .charged) || ltb mostCredited (a .credited)
 
 -- charged sums are not credited sums plus carried
 unfoldable pub doesNotClose : Ledger → Bool
 doesNotClose l = not (eqb (sum (λ a. a .charged) (l .accounts)) (sum (λ a. a .credited) (l .accounts) + l .carried))
 
--- ground 6: the length, words 0 and 6, terms with the year, number of ids and ids (of 64 bits) as grounds 2, 23, 3 and 4 have them, the accounts' bytes, word 3, carried, accounts, sums
+-- ground 6: the length, words 0 and 6, terms with the year, number of ids and ids (of 64 bits) as grounds 2, 23, 3
+-- and 4 have them, the accounts' bytes, word 3, carried, accounts, sums
 unfoldable pub notALedger : List ℕ → Bool
 notALedger b =
     let l = ledgerOf b in

@@ -27,7 +27,8 @@ openingGrounds block ledger =
 
 -- the ledger of a block: words 3 and 4 and all account words but the ids are 0
 unfoldable pub openedLedger : List ℕ → Ledger
-openedLedger block = record { terms = blockOf block .terms; earliest = 0; carried = 0; accounts = map emptyAccount (blockOf block .ids) }
+openedLedger block =
+    record { terms = blockOf block .terms; earliest = 0; carried = 0; accounts = map emptyAccount (blockOf block .ids) }
 
 -- what opening answers, and what it leaves in the ledger buffer
 pub record OpeningAnswer : Type 0 where

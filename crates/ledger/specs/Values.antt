@@ -1,4 +1,5 @@
--- What the values of the code say, as the records that the definitions speak of; what is known of a ledger once ground 6 is ruled out; and where a walk finds an id.
+-- What the values of the code say, as the records that the definitions speak of;
+-- what is known of a ledger once ground 6 is ruled out; and where a walk finds an id.
 use Prim.Native.Nat.{ℕ, zero, suc, _*_, _≤_}
 use mathlib.Core.Path.{_≡_}
 use mathlib.Core.List.{List, [], _∷_}
@@ -15,7 +16,8 @@ use Rattle.ledger.specs.declared.layout.Standing.{Standing as StandingVa
 
 -- what a value says that stands before the accounts
 unfoldable pub standingIn : StandingValue → Standing
-standingIn s = record { terms = termsIn (s .terms); earliest = s .earliest; carried = s .carried .0; accountCount = s .accounts }
+standingIn s =
+    record { terms = termsIn (s .terms); earliest = s .earliest; carried = s .carried .0; accountCount = s .accounts }
 
 -- a value read from a ledger that ground 6 does not refuse
 pub record LedgerRead (ledger : List ℕ) (s : StandingValue) : Type 0 where

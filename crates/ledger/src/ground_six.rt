@@ -26,7 +26,16 @@ ghost use Rattle.reading.specs.Interval.{intervalsPerDay};
 ghost use Rattle.reading.specs.Values.{termsIn};
 ghost use Rattle.assessment.specs.Assessment.{mostCents};
 ghost use Rattle.assessment.specs.Values.{accountIn};
-ghost use Rattle.ledger.specs.Ledger.{standingOf, ledgerBytes, ledgerOf, idsIn, ledgerTermsOutside, accountOutside, doesNotClose, notALedger};
+ghost use Rattle.ledger.specs.Ledger.{
+  standingOf,
+  ledgerBytes,
+  ledgerOf,
+  idsIn,
+  ledgerTermsOutside,
+  accountOutside,
+  doesNotClose,
+  notALedger,
+};
 ghost use Rattle.ledger.specs.Values.{standingIn};
 
 // The most cents carried, and so of a pool.
@@ -47,10 +56,12 @@ fn terms_refused(terms: Terms) -> bool
     year_outside(terms)
 }
 
-// Whether the terms, the number of accounts, the earliest interval or the cents carried are out of range, or the accounts do not fit.
+// Whether the terms, the number of accounts, the earliest interval or the cents carried are out of range,
+// or the accounts do not fit.
 fn standing_outside(ledger: &[u8], s: Standing) -> bool
     ensures { λ r.
-        ⌜ r ≡ (ledgerTermsOutside (termsIn (s .terms)) || outside 1 mostIds (s .accounts) || ltb (length (now (ledger .entry))) (ledgerBytes (s .accounts))
+        ⌜ r ≡ (ledgerTermsOutside (termsIn (s .terms)) || outside 1 mostIds (s .accounts)
+        || ltb (length (now (ledger .entry))) (ledgerBytes (s .accounts))
         || ltb (intervalsPerDay * s .terms .days) (s .earliest) || ltb mostCents (s .carried .0)) ⌝ }
 {
     let terms = s.terms;
@@ -86,7 +97,8 @@ fn account_outside(terms: Terms, a: Account) -> bool
     MOST_CREDITED.below(a.credited)
 }
 
-// Whether ids do not rise from above 0 on, an account is outside its bounds, or charged sums are not credited sums plus carried.
+// Whether ids do not rise from above 0 on, an account is outside its bounds,
+// or charged sums are not credited sums plus carried.
 fn accounts_refused(ledger: &[u8], s: Standing) -> bool
     requires { ⌜ standingIn s ≡ standingOf (now ledger) ⌝ }
     requires { ⌜ termsOutside (termsIn (s .terms)) ≡ false ⌝ }

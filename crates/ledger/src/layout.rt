@@ -1,4 +1,5 @@
-// The ledger's words, read from the caller's buffer and written into it as values. No other module knows where a word of it stands.
+// The ledger's words, read from the caller's buffer and written into it as values.
+// No other module knows where a word of it stands.
 
 use assessment::account::Account;
 use assessment::units::Cents;
@@ -16,7 +17,15 @@ ghost use lib.Dec.{ltb};
 ghost use Rattle.words.specs.Words.{written, writtenAt};
 ghost use Rattle.reading.specs.Block.{mostIds};
 ghost use Rattle.assessment.specs.Values.{accountIn};
-ghost use Rattle.ledger.specs.Ledger.{ledgerHeaderBytes, standingOf, ledgerBytes, accountAt, standingWords, accountWords, notLaidOut};
+ghost use Rattle.ledger.specs.Ledger.{
+  ledgerHeaderBytes,
+  standingOf,
+  ledgerBytes,
+  accountAt,
+  standingWords,
+  accountWords,
+  notLaidOut,
+};
 ghost use Rattle.ledger.specs.Values.{standingIn};
 
 const LEDGER_FORMAT: u64 = 1;
@@ -30,7 +39,8 @@ const ACCOUNT_BYTES: usize = 32;
 // Bytes of a ledger of the most accounts.
 pub const MOST_LEDGER_BYTES: usize = STANDING_BYTES + ACCOUNT_BYTES * MOST_IDS as usize;
 
-// What stands before the accounts: the terms, the earliest interval still accepted, the cents carried and the number of accounts.
+// What stands before the accounts: the terms, the earliest interval still accepted,
+// the cents carried and the number of accounts.
 pub struct Standing {
     pub terms: Terms,
     pub earliest: u64,
@@ -121,7 +131,8 @@ pub fn write_standing(ledger: &mut [u8], s: Standing)
 // Writes account j.
 pub fn write_account(ledger: &mut [u8], j: usize, a: Account)
     requires { ⌜ ledgerBytes (j + 1) ≤ length (now ledger) ⌝ }
-    ensures { λ _. ⌜ now (ledger .exit) ≡ writtenAt (ledgerBytes j) (accountWords (accountIn a ∷ [])) (now (ledger .entry)) ⌝ }
+    ensures { λ _.
+        ⌜ now (ledger .exit) ≡ writtenAt (ledgerBytes j) (accountWords (accountIn a ∷ [])) (now (ledger .entry)) ⌝ }
 {
     let words = [a.id, a.largest.0, a.charged.0, a.credited.0];
     let at = STANDING_BYTES + ACCOUNT_BYTES * j;

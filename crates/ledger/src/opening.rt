@@ -58,7 +58,9 @@ fn write_accounts(block: &[u8], b: Block, ledger: &mut [u8])
     requires { ⌜ Listed (now block) b ⌝ }
     requires { ⌜ ledgerBytes (b .ids) ≤ length (now ledger) ⌝ }
     ensures { λ _.
-        ⌜ now (ledger .exit) ≡ writtenAt ledgerHeaderBytes (accountWords (map emptyAccount (blockOf (now (block .entry)) .ids))) (now (ledger .entry)) ⌝ }
+        ⌜ now (ledger .exit)
+        ≡ writtenAt ledgerHeaderBytes (accountWords (map emptyAccount (blockOf (now (block .entry)) .ids)))
+        (now (ledger .entry)) ⌝ }
 {
     let mut i = 0;
     while i < b.ids {
@@ -71,7 +73,8 @@ fn write_accounts(block: &[u8], b: Block, ledger: &mut [u8])
 fn write_opened(block: &[u8], b: Block, ledger: &mut [u8])
     requires { ⌜ Listed (now block) b ⌝ }
     requires { ⌜ ledgerBytes (b .ids) ≤ length (now ledger) ⌝ }
-    ensures { λ _. ⌜ now (ledger .exit) ≡ written (ledgerWords (openedLedger (now (block .entry)))) (now (ledger .entry)) ⌝ }
+    ensures { λ _.
+        ⌜ now (ledger .exit) ≡ written (ledgerWords (openedLedger (now (block .entry)))) (now (ledger .entry)) ⌝ }
 {
     let terms = b.terms;
     let standing = Standing {

@@ -43,10 +43,13 @@ impl Walk {
         requires { ⌜ self .accounts ≤ mostIds ⌝ }
         requires { ⌜ self .account ≤ self .accounts ⌝ }
         requires { ⌜ comparisons id (drop (self .account) (idsIn (ledgerOf (now ledger)))) ≤ self .budget ⌝ }
-        ensures { λ r. ⌜ r .account ≡ self .account + before id (drop (self .account) (idsIn (ledgerOf (now (ledger .entry))))) ⌝ }
+        ensures { λ r.
+            ⌜ r .account ≡ self .account + before id (drop (self .account) (idsIn (ledgerOf (now (ledger .entry))))) ⌝ }
         ensures { λ r. ⌜ r .accounts ≡ self .accounts ⌝ }
         ensures { λ r. ⌜ r .account ≤ self .accounts ⌝ }
-        ensures { λ r. ⌜ r .budget ≡ self .budget - comparisons id (drop (self .account) (idsIn (ledgerOf (now (ledger .entry))))) ⌝ }
+        ensures { λ r.
+            ⌜ r .budget
+            ≡ self .budget - comparisons id (drop (self .account) (idsIn (ledgerOf (now (ledger .entry))))) ⌝ }
     {
         let mut j = self.account;
         let mut budget = self.budget;

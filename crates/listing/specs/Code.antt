@@ -18,4 +18,11 @@ stopLines number (Next.block bytes rest) = []
 
 -- what the figures of a year say
 unfoldable pub yearIn : YearFigures → YearLine
-yearIn y = record { id = y .id; shortfall = y .shortfall .0; bonus = y .bonus .0; charged = y .charged .0; credited = y .credited .0; limit = y .limit .0 }
+yearIn y = record {
+  id = y .id;
+  shortfall = y .shortfall .0;
+  bonus = y .bonus .0;
+  charged = y .charged .0;
+  credited = y .credited .0;
+  limit = y .limit .0;
+}

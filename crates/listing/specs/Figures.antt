@@ -43,15 +43,18 @@ pub record NpalistFigures : Type 0 where
   -- a refused opening ends the listing, a refused interval does not
   pub refused-opening : npalist (counted (drop 4 listingBlock) ++ listingStream) ≡ headingText ++ text "refused,0,1\n"
   pub no-opening : npalist (bytesOf 4 0 ++ listingStream) ≡ headingText ++ text "refused,0,1\n"
-  pub refused-interval : npalist (counted listingBlock ++ bytesOf 4 0 ++ counted (listingFile 1000 0 0) ++ counted (listingFile 1000 0 0))
+  pub refused-interval : npalist
+      (counted listingBlock ++ bytesOf 4 0 ++ counted (listingFile 1000 0 0) ++ counted (listingFile 1000 0 0))
       ≡ headingText ++ text "refused,1,7\n" ++ listingText ++ text "refused,3,10\n"
   -- a length over the limit is refused before its block is read, and ends the listing
   pub long-opening : npalist (bytesOf 4 4097) ≡ headingText ++ text "refused,0,1\n"
   pub long-interval : npalist (counted listingBlock ++ bytesOf 4 61441 ++ counted (listingFile 1000 0 0))
       ≡ headingText ++ text "refused,1,7\n"
   pub length-at-limit : npalist (counted listingBlock ++ bytesOf 4 61440) ≡ headingText ++ text "cut,1\n"
-  -- a block of format 1 that is too long for its format, but not for a block, is read and refused, and the listing goes on
-  pub long-format-1 : npalist (counted listingBlock ++ counted (bytesOf 4 1 ++ replicate 49149 0) ++ counted (listingFile 1000 0 0))
+  -- a block of format 1 that is too long for its format, but not for a block, is read and refused,
+  -- and the listing goes on
+  pub long-format-1 : npalist
+      (counted listingBlock ++ counted (bytesOf 4 1 ++ replicate 49149 0) ++ counted (listingFile 1000 0 0))
       ≡ headingText ++ text "refused,1,7\n" ++ listingText
   -- numbers without padding, up to the largest 64-bit word
   pub zero-digits : decimal 0 ≡ text "0"

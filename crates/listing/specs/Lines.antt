@@ -87,7 +87,9 @@ pub data Line : Type 0 where
 -- the bytes of a line
 unfoldable pub bytesOfLine : Line → List ℕ
 bytesOfLine (row r) =
-    line (r .interval ∷ r .id ∷ r .expected ∷ r .actual ∷ r .outage ∷ r .economic ∷ r .shortfall ∷ r .bonus ∷ r .charge ∷ r .credit ∷ [])
+    line
+    (r .interval ∷ r .id ∷ r .expected ∷ r .actual ∷ r .outage ∷ r .economic ∷ r .shortfall ∷ r .bonus
+    ∷ r .charge ∷ r .credit ∷ [])
 bytesOfLine (pool p) = text "pool," ++ line (p .interval ∷ p .ratio ∷ p .charges ∷ p .credits ∷ p .carried ∷ [])
 bytesOfLine (refused block ground) = text "refused," ++ line (block ∷ ground ∷ [])
 bytesOfLine (cut block) = text "cut," ++ line (block ∷ [])

@@ -102,7 +102,8 @@ listingSteps = record { most = mostBytes; block = blockListed; last = λ number 
 abbrev pub nextListed : ℕ → List ℕ → List ℕ → Outcome Line (List ℕ)
 nextListed number ledger s = step listingSteps number ledger (nextBlock (mostBytes number) s)
 
--- the lines of a stream, and the ledger after them; a budget above the stream's length is never used up (`budget-is-enough`)
+-- the lines of a stream, and the ledger after them;
+-- a budget above the stream's length is never used up (`budget-is-enough`)
 unfoldable pub listed : List ℕ → Outcome Line (List ℕ)
 listed stream = stepsOver listingSteps (length stream + 1) 0 ledgerBuffer stream
 

@@ -28,7 +28,9 @@ fn put_row_lines(out: &mut [u8], at: usize, file: &[u8], h: Header, result: &[u8
     requires { ⌜ Tabled (now file) h ⌝ }
     requires { ⌜ resultBytes (h .rows) ≤ length (now result) ⌝ }
     requires { ⌜ at + rowRoom * h .rows ≤ length (now out) ⌝ }
-    ensures { λ _. ⌜ now (out .exit) ≡ placedAt at (bytesOfLines (fileLines (now (file .entry)) (now (result .entry)))) (now (out .entry)) ⌝ }
+    ensures { λ _.
+        ⌜ now (out .exit)
+        ≡ placedAt at (bytesOfLines (fileLines (now (file .entry)) (now (result .entry)))) (now (out .entry)) ⌝ }
     ensures { λ r. ⌜ r ≡ at + length (bytesOfLines (fileLines (now (file .entry)) (now (result .entry)))) ⌝ }
     ensures { λ r. ⌜ r ≤ at + rowRoom * h .rows ⌝ }
 {

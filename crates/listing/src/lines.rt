@@ -147,7 +147,8 @@ pub fn put_word_line(out: &mut [u8], at: usize, b: &[u8], n: usize) -> usize
 pub fn put_row_line(out: &mut [u8], at: usize, interval: u64, id: u64, row: &[u8]) -> usize
     requires { ⌜ resultRowBytes ≤ length (now row) ⌝ }
     requires { ⌜ at + rowRoom ≤ length (now out) ⌝ }
-    ensures { λ _. ⌜ now (out .exit) ≡ placedAt at (bytesOfLine (rowLine interval id (now (row .entry)))) (now (out .entry)) ⌝ }
+    ensures { λ _.
+        ⌜ now (out .exit) ≡ placedAt at (bytesOfLine (rowLine interval id (now (row .entry)))) (now (out .entry)) ⌝ }
     ensures { λ r. ⌜ r ≡ at + length (bytesOfLine (rowLine interval id (now (row .entry)))) ⌝ }
     ensures { λ r. ⌜ r ≤ at + rowRoom ⌝ }
 {
@@ -160,7 +161,8 @@ pub fn put_row_line(out: &mut [u8], at: usize, interval: u64, id: u64, row: &[u8
 pub fn put_pool_line(out: &mut [u8], at: usize, interval: u64, result: &[u8]) -> usize
     requires { ⌜ resultHeaderBytes ≤ length (now result) ⌝ }
     requires { ⌜ at + poolRoom ≤ length (now out) ⌝ }
-    ensures { λ _. ⌜ now (out .exit) ≡ placedAt at (bytesOfLine (poolLine interval (now (result .entry)))) (now (out .entry)) ⌝ }
+    ensures { λ _.
+        ⌜ now (out .exit) ≡ placedAt at (bytesOfLine (poolLine interval (now (result .entry)))) (now (out .entry)) ⌝ }
     ensures { λ r. ⌜ r ≡ at + length (bytesOfLine (poolLine interval (now (result .entry)))) ⌝ }
     ensures { λ r. ⌜ r ≤ at + poolRoom ⌝ }
 {
@@ -183,7 +185,8 @@ fn put_kilowatts(out: &mut [u8], at: usize, shortfall: Kilowatts, bonus: Kilowat
 // Writes what a plant is charged and credited, and its limit, at the end of a line.
 fn put_cents(out: &mut [u8], at: usize, charged: Cents, credited: Cents, limit: Cents) -> usize
     requires { ⌜ at + 3 * fieldRoom ≤ length (now out) ⌝ }
-    ensures { λ _. ⌜ now (out .exit) ≡ placedAt at (line (charged .0 ∷ credited .0 ∷ limit .0 ∷ [])) (now (out .entry)) ⌝ }
+    ensures { λ _.
+        ⌜ now (out .exit) ≡ placedAt at (line (charged .0 ∷ credited .0 ∷ limit .0 ∷ [])) (now (out .entry)) ⌝ }
     ensures { λ r. ⌜ r ≡ at + length (line (charged .0 ∷ credited .0 ∷ limit .0 ∷ [])) ⌝ }
     ensures { λ r. ⌜ r ≤ at + 3 * fieldRoom ⌝ }
 {

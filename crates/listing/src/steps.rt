@@ -69,7 +69,8 @@ fn put_end(number: u64, out: &mut [u8]) -> usize
 // Writes the line where a stream stops, if any, and nothing where a block is next.
 pub fn put_stop(number: u64, found: Found, out: &mut [u8]) -> usize
     requires { ⌜ refusedRoom ≤ length (now out) ⌝ }
-    ensures { λ _. ⌜ now (out .exit) ≡ placedAt 0 (bytesOfLines (stopLines number (foundAs found []))) (now (out .entry)) ⌝ }
+    ensures { λ _.
+        ⌜ now (out .exit) ≡ placedAt 0 (bytesOfLines (stopLines number (foundAs found []))) (now (out .entry)) ⌝ }
     ensures { λ r. ⌜ r ≡ length (bytesOfLines (stopLines number (foundAs found []))) ⌝ }
     ensures { λ r. ⌜ r ≤ refusedRoom ⌝ }
 {

@@ -8,7 +8,8 @@ ghost use Rattle.ledger.specs.Opening.{opening};
 ghost use Rattle.settling.specs.Settling.{settling};
 ghost use Rattle.event.specs.Event.{event};
 
-// Opens a ledger: answers 0, or the first ground of 1 to 5 that applies and leaves the ledger as it was.
+// Opens a ledger: answers 0, or the first ground of 1 to 5 and 23 that applies, in checking order,
+// and leaves the ledger as it was.
 #[no_mangle]
 pub extern "C" fn npa_open(block: &[u8], ledger: &mut [u8]) -> u32
     ensures answer { λ r. ⌜ r ≡ opening (now (block .entry)) (now (ledger .entry)) .ground ⌝ }
@@ -17,18 +18,21 @@ pub extern "C" fn npa_open(block: &[u8], ledger: &mut [u8]) -> u32
     open(block, ledger)
 }
 
-// Settles an interval file: answers 0, or the first ground of 6 to 16 that applies and leaves ledger and result as they were.
+// Settles an interval file: answers 0, or the first ground of 6 to 16 and 18 that applies, in checking order,
+// and leaves ledger and result as they were.
 #[no_mangle]
 pub extern "C" fn npa_settle(ledger: &mut [u8], file: &[u8], result: &mut [u8]) -> u32
     ensures answer { λ r. ⌜ r ≡ settling (now (ledger .entry)) (now (file .entry)) (now (result .entry)) .ground ⌝ }
-    ensures ledger_bytes { λ r. ⌜ now (ledger .exit) ≡ settling (now (ledger .entry)) (now (file .entry)) (now (result .entry)) .ledger ⌝ }
-    ensures result_bytes { λ r. ⌜ now (result .exit) ≡ settling (now (ledger .entry)) (now (file .entry)) (now (result .entry)) .result ⌝ }
+    ensures ledger_bytes { λ r.
+        ⌜ now (ledger .exit) ≡ settling (now (ledger .entry)) (now (file .entry)) (now (result .entry)) .ledger ⌝ }
+    ensures result_bytes { λ r.
+        ⌜ now (result .exit) ≡ settling (now (ledger .entry)) (now (file .entry)) (now (result .entry)) .result ⌝ }
 {
     settle_file(ledger, file, result)
 }
 
-// Settles an event: answers 0, or the ground of the first file refused, and leaves what was settled before it; or 20 where
-// there is no room for the number of files settled, and leaves every buffer as it was.
+// Settles an event: answers 0, or the ground of the first file refused, and leaves what was settled before it;
+// or 20 where there is no room for the number of files settled, and leaves every buffer as it was.
 #[no_mangle]
 pub extern "C" fn npa_event(
     ledger: &mut [u8],
@@ -36,10 +40,17 @@ pub extern "C" fn npa_event(
     result: &mut [u8],
     count: &mut [u8],
 ) -> u32
-    ensures answer { λ r. ⌜ r ≡ event (now (ledger .entry)) (now (files .entry)) (now (result .entry)) (now (count .entry)) .ground ⌝ }
-    ensures ledger_bytes { λ r. ⌜ now (ledger .exit) ≡ event (now (ledger .entry)) (now (files .entry)) (now (result .entry)) (now (count .entry)) .ledger ⌝ }
-    ensures result_bytes { λ r. ⌜ now (result .exit) ≡ event (now (ledger .entry)) (now (files .entry)) (now (result .entry)) (now (count .entry)) .result ⌝ }
-    ensures count_bytes { λ r. ⌜ now (count .exit) ≡ event (now (ledger .entry)) (now (files .entry)) (now (result .entry)) (now (count .entry)) .count ⌝ }
+    ensures answer { λ r.
+        ⌜ r ≡ event (now (ledger .entry)) (now (files .entry)) (now (result .entry)) (now (count .entry)) .ground ⌝ }
+    ensures ledger_bytes { λ r.
+        ⌜ now (ledger .exit)
+        ≡ event (now (ledger .entry)) (now (files .entry)) (now (result .entry)) (now (count .entry)) .ledger ⌝ }
+    ensures result_bytes { λ r.
+        ⌜ now (result .exit)
+        ≡ event (now (ledger .entry)) (now (files .entry)) (now (result .entry)) (now (count .entry)) .result ⌝ }
+    ensures count_bytes { λ r.
+        ⌜ now (count .exit)
+        ≡ event (now (ledger .entry)) (now (files .entry)) (now (result .entry)) (now (count .entry)) .count ⌝ }
 {
     settle_event(ledger, files, result, count)
 }

@@ -61,7 +61,8 @@ firstYear = 2018
 abbrev pub lastYear : ℕ
 lastYear = 2023
 
--- the terms of a delivery year: Net CONE in cents per MW-day, days, and the calendar year in which it starts, 0 where none is named
+-- the terms of a delivery year: Net CONE in cents per MW-day, days, and the calendar year in which it starts,
+-- 0 where none is named
 pub record Terms : Type 0 where
   pub netCone : ℕ
   pub days : ℕ
@@ -108,7 +109,8 @@ termsOutside t = outside 1 mostNetCone (t .netCone) || not (eqb (t .days) common
 
 -- a year that no block may name: any but 2016, of 365 days, and 2018 to 2023
 unfoldable pub yearOutside : Terms → Bool
-yearOutside t = cond (eqb (t .year) transitionYear) (not (eqb (t .days) commonYear)) (outside firstYear lastYear (t .year))
+yearOutside t =
+    cond (eqb (t .year) transitionYear) (not (eqb (t .days) commonYear)) (outside firstYear lastYear (t .year))
 
 -- ground 23: in format 2, a year that no block may name
 unfoldable pub yearUnknown : BlockWords → Bool
@@ -118,7 +120,8 @@ yearUnknown w = not (eqb (w .format) yearlessFormat) && yearOutside (w .terms)
 unfoldable pub idsMisplaced : List ℕ → Bool
 idsMisplaced b =
     let w = blockWords b in
-    outside 1 mostIds (w .idCount) || not (liesFrom (blockHeaderBytes (w .format)) (length b) (w .idsOffset) (idBytes * w .idCount))
+    outside 1 mostIds (w .idCount)
+    || not (liesFrom (blockHeaderBytes (w .format)) (length b) (w .idsOffset) (idBytes * w .idCount))
 
 -- ground 4: an id of 0, or ids that do not rise strictly
 unfoldable pub idsOutOfOrder : List ℕ → Bool

@@ -7,7 +7,17 @@ use lib.IntN.{ℤ, pos, negsuc}
 use Rattle.words.specs.Words.{bytesOfWords}
 use Rattle.words.specs.Grounds.{answered}
 use Rattle.words.specs.Figures.{Figure, _gives_, AllAsStated, test}
-use Rattle.reading.specs.Block.{Terms, blockWords, blockOf, notABlock, termsOutside, yearOutside, yearUnknown, idsMisplaced, idsOutOfOrder}
+use Rattle.reading.specs.Block.{
+  Terms,
+  blockWords,
+  blockOf,
+  notABlock,
+  termsOutside,
+  yearOutside,
+  yearUnknown,
+  idsMisplaced,
+  idsOutOfOrder,
+}
 use Rattle.reading.specs.Interval.{
   Header,
   Point,
@@ -137,7 +147,12 @@ pub record LayoutFigures : Type 0 where
         minimum = 20;
         online = 21;
         lmp = negsuc 21;
-        schedules = record { kind = 1; curve = record { price = negsuc 9; kw = 94 } ∷ record { price = pos 95; kw = 96 } ∷ [] } ∷ [];
+        schedules =
+            record {
+              kind = 1;
+              curve = record { price = negsuc 9; kw = 94 } ∷ record { price = pos 95; kw = 96 } ∷ [];
+            }
+            ∷ [];
         dispatched = 0;
       }
       ∷ []
@@ -200,23 +215,24 @@ threeTables bytes rows rowsOffset points pointsOffset schedules schedulesOffset 
 -- the words of a row: kind, committed, owned, metered, adjustment, planned, forced, maximum, minimum, online, LMP,
 -- its first point or schedule, their number, and the one dispatched on
 abbrev pub wordsWith : ℕ → ℕ → ℕ → ℤ → ℤ → ℕ → ℕ → ℕ → ℕ → ℕ → ℤ → ℕ → ℕ → ℕ → RowWords
-wordsWith kind committed owned metered adjustment planned forced maximum minimum online lmp first count dispatched = record {
-  id = 1;
-  kind = kind;
-  committed = committed;
-  owned = owned;
-  metered = metered;
-  adjustment = adjustment;
-  planned = planned;
-  forced = forced;
-  maximum = maximum;
-  minimum = minimum;
-  online = online;
-  lmp = lmp;
-  first = first;
-  count = count;
-  dispatched = dispatched;
-}
+wordsWith kind committed owned metered adjustment planned forced maximum minimum online lmp first count dispatched =
+    record {
+      id = 1;
+      kind = kind;
+      committed = committed;
+      owned = owned;
+      metered = metered;
+      adjustment = adjustment;
+      planned = planned;
+      forced = forced;
+      maximum = maximum;
+      minimum = minimum;
+      online = online;
+      lmp = lmp;
+      first = first;
+      count = count;
+      dispatched = dispatched;
+    }
 
 -- words of a row with nothing in it but schedules: the first of them, their number, and the one dispatched on
 abbrev pub naming : ℕ → ℕ → ℕ → RowWords
@@ -402,7 +418,10 @@ tableFigures =
 -- ground 13, at a bound and beyond it
 unfoldable pub rowGroundFigures : List Figure
 rowGroundFigures =
-    test (rowOutside (wordsWith 3 4000000 4000000 (pos 4000000) (negsuc 3999999) 4000000 4000000 4000000 4000000 1 (pos 1000000) 0 0 0)) gives 0
+    test
+    (rowOutside
+    (wordsWith 3 4000000 4000000 (pos 4000000) (negsuc 3999999) 4000000 4000000 4000000 4000000 1 (pos 1000000) 0 0 0))
+    gives 0
     ∷ test (rowOutside (wordsWith 4 0 0 (negsuc 3999999) (pos 4000000) 0 0 0 0 0 (negsuc 999999) 0 0 0)) gives 0
     ∷ test (rowOutside (wordsWith 5 0 0 (negsuc 3999999) (pos 4000000) 0 0 0 0 0 (negsuc 999999) 0 0 0)) gives 0
     ∷ test (rowOutside (wordsWith 6 0 0 (pos 0) (pos 0) 0 0 0 0 0 (pos 0) 0 0 0)) gives 1
@@ -452,7 +471,8 @@ scheduleGroundFigures =
     ∷ test (schedulesOutside fiveMarket (naming 3 2 4)) gives 1
     ∷ test (schedulesOutside fiveMarket (naming 0 0 1)) gives 1
     -- of kinds 1 to 3, each that the row names
-    ∷ test (schedulesOutside (offering (schedule 1 0 1 ∷ schedule 2 0 1 ∷ schedule 3 0 1 ∷ []) nothing) (naming 0 3 0)) gives 0
+    ∷ test (schedulesOutside (offering (schedule 1 0 1 ∷ schedule 2 0 1 ∷ schedule 3 0 1 ∷ []) nothing) (naming 0 3 0))
+    gives 0
     ∷ test (schedulesOutside (offering (schedule 1 0 1 ∷ schedule 0 0 1 ∷ []) nothing) (naming 0 2 0)) gives 1
     ∷ test (schedulesOutside (offering (schedule 1 0 1 ∷ schedule 4 0 1 ∷ []) nothing) (naming 0 2 0)) gives 1
     ∷ test (schedulesOutside (offering (schedule 1 0 1 ∷ schedule 4 0 1 ∷ []) nothing) (naming 0 1 0)) gives 0
@@ -482,13 +502,22 @@ pointGroundFigures =
     ∷ test (pointsOutside (offering (schedule 1 0 0 ∷ []) (replicate 3 (at (pos 1) 1))) (naming 0 1 0)) gives 1
     ∷ test (pointsOutside (offering (schedule 1 0 10 ∷ []) (replicate 11 (at (pos 1) 1))) (naming 0 1 0)) gives 0
     ∷ test (pointsOutside (offering (schedule 1 0 11 ∷ []) (replicate 11 (at (pos 1) 1))) (naming 0 1 0)) gives 1
-    ∷ test (pointsOutside (offering (schedule 1 2 1 ∷ schedule 1 3 1 ∷ []) (replicate 3 (at (pos 1) 1))) (naming 0 1 0)) gives 0
-    ∷ test (pointsOutside (offering (schedule 1 2 1 ∷ schedule 1 3 1 ∷ []) (replicate 3 (at (pos 1) 1))) (naming 0 2 0)) gives 1
-    ∷ test (pointsOutside (offering (schedule 9 9999 77 ∷ schedule 1 0 1 ∷ []) (at (pos 1) 1 ∷ [])) (naming 1 1 0)) gives 0
+    ∷ test (pointsOutside (offering (schedule 1 2 1 ∷ schedule 1 3 1 ∷ []) (replicate 3 (at (pos 1) 1))) (naming 0 1 0))
+    gives 0
+    ∷ test (pointsOutside (offering (schedule 1 2 1 ∷ schedule 1 3 1 ∷ []) (replicate 3 (at (pos 1) 1))) (naming 0 2 0))
+    gives 1
+    ∷ test (pointsOutside (offering (schedule 9 9999 77 ∷ schedule 1 0 1 ∷ []) (at (pos 1) 1 ∷ [])) (naming 1 1 0))
+    gives 0
     -- schedules may share points, and nothing falls from one schedule to another
-    ∷ test (pointsOutside (offering (schedule 1 0 2 ∷ schedule 3 1 1 ∷ []) (at (pos 5) 5 ∷ at (pos 6) 6 ∷ [])) (naming 0 2 0)) gives 0
-    ∷ test (pointsOutside (offering (schedule 1 0 1 ∷ schedule 3 1 1 ∷ []) (at (pos 5) 5 ∷ at (pos 4) 4 ∷ [])) (naming 0 2 0)) gives 0
-    ∷ test (pointsOutside (offering (schedule 1 0 1 ∷ schedule 3 0 2 ∷ []) (at (pos 5) 5 ∷ at (pos 4) 4 ∷ [])) (naming 0 2 0)) gives 1
+    ∷ test
+    (pointsOutside (offering (schedule 1 0 2 ∷ schedule 3 1 1 ∷ []) (at (pos 5) 5 ∷ at (pos 6) 6 ∷ [])) (naming 0 2 0))
+    gives 0
+    ∷ test
+    (pointsOutside (offering (schedule 1 0 1 ∷ schedule 3 1 1 ∷ []) (at (pos 5) 5 ∷ at (pos 4) 4 ∷ [])) (naming 0 2 0))
+    gives 0
+    ∷ test
+    (pointsOutside (offering (schedule 1 0 1 ∷ schedule 3 0 2 ∷ []) (at (pos 5) 5 ∷ at (pos 4) 4 ∷ [])) (naming 0 2 0))
+    gives 1
     ∷ []
 
 -- 13 of any row comes before 18 of any, and that before 14; two rows may share a schedule

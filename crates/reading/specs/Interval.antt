@@ -304,7 +304,8 @@ pub data Kind : Type 0 where
   importer : Kind
   noKind : Kind
 
--- by the word: 0 generation or storage, 1 demand resource, 2 energy efficiency, 3 price responsive demand (PRD), 4 energy-only, 5 importer
+-- by the word: 0 generation or storage, 1 demand resource, 2 energy efficiency, 3 price responsive demand (PRD),
+-- 4 energy-only, 5 importer
 unfoldable pub kindOf : ℕ → Kind
 kindOf k =
     cond (eqb k 0) generation
@@ -325,7 +326,8 @@ notAFile f = notOfFormats (fileSizes curvesFormat) (fileSizes schedulesFormat) f
 
 -- ground 9: the interval, region-wide or the imports
 unfoldable pub headerOutside : Header → Bool
-headerOutside h = leb (intervalsPerDay * h .days) (h .interval) || ltb 1 (h .regionWide) || beyond mostImports (h .imports)
+headerOutside h =
+    leb (intervalsPerDay * h .days) (h .interval) || ltb 1 (h .regionWide) || beyond mostImports (h .imports)
 
 -- a table of a file: its byte offset, and its bytes
 pub record Table : Type 0 where
@@ -356,7 +358,8 @@ tablesMisplaced f =
     (record { at = h .pointsOffset; bytes = pointBytes * h .pointCount })
     (record { at = h .schedulesOffset; bytes = scheduleBytes * h .scheduleCount })
 
--- ground 13, of one row: its kind, words 2, 3, 6, 7, 8 and 9, words 4 and 5, minimum and maximum, online, LMP, and kind 4 or 5 with a commitment
+-- ground 13, of one row: its kind, words 2, 3, 6, 7, 8 and 9, words 4 and 5, minimum and maximum, online, LMP,
+-- and kind 4 or 5 with a commitment
 unfoldable pub rowOutside : RowWords → Bool
 rowOutside w =
     ltb lastKind (w .kind)
@@ -373,8 +376,8 @@ schedulesBeyond h w = byFormat (h .format) false (ltb 0 (w .count) && ltb (h .sc
 unfoldable pub kindOutside : ScheduleWords → Bool
 kindOutside s = outside market cost (s .kind)
 
--- ground 18, of one row of a file: the place, number or kinds of its schedules, or the one dispatched on, if not 0 and not
--- below their number
+-- ground 18, of one row of a file: the place, number or kinds of its schedules, or the one dispatched on,
+-- if not 0 and not below their number
 unfoldable pub schedulesOutside : List ℕ → RowWords → Bool
 schedulesOutside f w =
     let named = schedulesNamed f w in

@@ -1,4 +1,5 @@
--- What the values of the code say, as the records that the definitions speak of; and what is known of them once grounds are ruled out.
+-- What the values of the code say, as the records that the definitions speak of;
+-- and what is known of them once grounds are ruled out.
 use Prim.Native.Nat.{ℕ, _+_, _*_, _≤_}
 use mathlib.Core.Path.{_≡_}
 use mathlib.Core.List.{List}

@@ -49,7 +49,8 @@ const FIRST_YEAR: u64 = 2018;
 
 const LAST_YEAR: u64 = 2023;
 
-// The terms of a delivery year: Net CONE in cents per MW-day, days, and the calendar year in which it starts, 0 where none is named.
+// The terms of a delivery year: Net CONE in cents per MW-day, days, and the calendar year in which it starts,
+// 0 where none is named.
 pub struct Terms {
     pub net_cone: u64,
     pub days: u64,

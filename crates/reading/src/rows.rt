@@ -33,7 +33,8 @@ ghost use Rattle.reading.specs.Interval.{
 };
 ghost use Rattle.reading.specs.Values.{headerIn, rowIn, scheduleIn, pointIn, Tabled};
 
-// Kinds of rows: generation or storage, demand resource, energy efficiency, price responsive demand (PRD), energy-only, importer.
+// Kinds of rows: generation or storage, demand resource, energy efficiency, price responsive demand (PRD),
+// energy-only, importer.
 pub const GENERATION: u64 = 0;
 
 pub const DEMAND: u64 = 1;
@@ -53,7 +54,8 @@ pub const PRICE_BASED: u64 = 2;
 
 pub const COST: u64 = 3;
 
-// A row's words. The last three name its points in format 1, in format 2 its schedules and the one that it was dispatched on.
+// A row's words. The last three name its points in format 1,
+// in format 2 its schedules and the one that it was dispatched on.
 pub struct Row {
     pub id: u64,
     pub kind: u64,

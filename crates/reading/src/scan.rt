@@ -51,7 +51,8 @@ const MOST_CURVE_POINTS: usize = 10;
 // Whether a word of a row that counts kW, and is not signed, is too high.
 fn kilowatts_outside(row: Row) -> bool
     ensures { λ r.
-        ⌜ r ≡ any (ltb mostKilowatts) (row .committed ∷ row .owned ∷ row .planned ∷ row .forced ∷ row .maximum ∷ row .minimum ∷ []) ⌝ }
+        ⌜ r ≡ any (ltb mostKilowatts)
+        (row .committed ∷ row .owned ∷ row .planned ∷ row .forced ∷ row .maximum ∷ row .minimum ∷ []) ⌝ }
 {
     if MOST_KILOWATTS < row.committed {
         return true;

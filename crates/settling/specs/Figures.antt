@@ -118,7 +118,8 @@ fullPool =
 -- the listing's file in format 2, each curve as a market schedule that its row was dispatched on
 unfoldable pub listingOfSchedules : List ℕ
 listingOfSchedules =
-    fileOfSchedules 1000 (naming row11 0 1 0 ++ naming row12 1 1 0 ++ naming row13 2 1 0 ++ naming row14 0 0 0) listingPoints
+    fileOfSchedules 1000
+    (naming row11 0 1 0 ++ naming row12 1 1 0 ++ naming row13 2 1 0 ++ naming row14 0 0 0) listingPoints
     (1 ∷ 0 ∷ 2 ∷ 1 ∷ 2 ∷ 2 ∷ 1 ∷ 4 ∷ 2 ∷ [])
 
 -- a row of id 11 with a first point and a number of points
@@ -160,7 +161,8 @@ settlingFigures =
     ∷ settles (fileWith 30000 365 1000 0 0 (rowWithPoints 0 2) (1 ∷ 1 ∷ 1 ∷ 0 ∷ [])) 320 gives 14
     ∷ settles (fileWith 30000 365 1000 0 0 (rowWithPoints 1 2) (1 ∷ 1 ∷ 1 ∷ 1 ∷ [])) 320 gives 14
     ∷ settles (fileWith 30000 365 1000 0 0 (rowWithPoints 4294967295 0) []) 320 gives 0
-    -- one schedule of one point: named, of a kind that is none, beyond the table, with too high a word 14, and without points
+    -- one schedule of one point: named, of a kind that is none, beyond the table, with too high a word 14,
+    -- and without points
     ∷ settles (fileOfSchedules 1000 (naming (rowOfKind 0) 0 1 0) (1 ∷ 1 ∷ []) (3 ∷ 0 ∷ 1 ∷ [])) 320 gives 0
     ∷ settles (fileOfSchedules 1000 (naming (rowOfKind 0) 0 1 0) (1 ∷ 1 ∷ []) (4 ∷ 0 ∷ 1 ∷ [])) 320 gives 18
     ∷ settles (fileOfSchedules 1000 (naming (rowOfKind 0) 1 1 0) (1 ∷ 1 ∷ []) (3 ∷ 0 ∷ 1 ∷ [])) 320 gives 18
@@ -186,9 +188,13 @@ orderFigures =
     -- a first row whose points fall and a second row of kind 6: all rows are tested for 13 before any for 14
     ∷ settles (fileWith 30000 365 1000 0 0 (rowWithPoints 0 2 ++ rowOfKind 6) (1 ∷ 1 ∷ 0 ∷ 1 ∷ [])) 320 gives 13
     -- a first row whose schedule is of no kind and a second row of kind 6: all are tested for 13 before any for 18
-    ∷ settles (fileOfSchedules 1000 (naming (rowWithPoints 0 0) 0 1 0 ++ naming (rowOfKind 6) 0 0 0) [] (4 ∷ 0 ∷ 1 ∷ [])) 320 gives 13
+    ∷ settles
+    (fileOfSchedules 1000 (naming (rowWithPoints 0 0) 0 1 0 ++ naming (rowOfKind 6) 0 0 0) [] (4 ∷ 0 ∷ 1 ∷ [])) 320
+    gives 13
     -- a first row whose schedule has no points and a second whose schedule is of no kind: and for 18 before any for 14
-    ∷ settles (fileOfSchedules 1000 (naming (rowWithPoints 0 0) 0 1 0 ++ naming (rowOfKind 0) 1 1 0) [] (1 ∷ 0 ∷ 0 ∷ 4 ∷ 0 ∷ 0 ∷ [])) 320
+    ∷ settles
+    (fileOfSchedules 1000
+    (naming (rowWithPoints 0 0) 0 1 0 ++ naming (rowOfKind 0) 1 1 0) [] (1 ∷ 0 ∷ 0 ∷ 4 ∷ 0 ∷ 0 ∷ [])) 320
     gives 18
     ∷ settles (fileWith 30000 365 1000 0 0 (rowWithPoints 0 2) (1 ∷ 1 ∷ 0 ∷ 1 ∷ [])) 127 gives 14
     ∷ settling fullPool (demandFile 3 0) (buffer 127) .ground gives 15
@@ -218,4 +224,5 @@ pub record SettlingGroundFigures : Type 0 where
   pub order-figures : AllAsStated orderFigures
   pub settled-figures : AllAsStated settledFigures
   -- the same content in both formats leaves the same bytes
-  pub same-in-both : settling openedListing listingOfSchedules (buffer 320) ≡ settling openedListing (listingFile 1000 0 0) (buffer 320)
+  pub same-in-both : settling openedListing listingOfSchedules (buffer 320)
+      ≡ settling openedListing (listingFile 1000 0 0) (buffer 320)

@@ -25,7 +25,14 @@ ghost use Rattle.reading.specs.Interval.{headerOf, rowsOf};
 ghost use Rattle.assessment.specs.Assessment.{mostCents, ratioOf, pool};
 ghost use Rattle.assessment.specs.Values.{mostNumerator, ratioIn};
 ghost use Rattle.ledger.specs.Ledger.{ledgerWords};
-ghost use Rattle.settling.specs.Settling.{resultBytes, resultWords, assessedFile, poolTooLarge, settledLedger, settling as settlingOf};
+ghost use Rattle.settling.specs.Settling.{
+  resultBytes,
+  resultWords,
+  assessedFile,
+  poolTooLarge,
+  settledLedger,
+  settling as settlingOf,
+};
 ghost use Rattle.settling.specs.Values.{Passed};
 
 // The most that the charges of one file can be: those of 512 rows that are 4000000 kW short on the highest terms.
@@ -64,8 +71,12 @@ fn write_settled(
     requires { ⌜ ratioIn ratio ≡ ratioOf (headerOf (now file)) (rowsOf (now file)) ⌝ }
     requires { ⌜ ratio .numerator .0 ≤ mostNumerator ⌝ }
     requires { ⌜ pool (assessedFile (now ledger) (now file)) ≤ mostCents ⌝ }
-    ensures { λ _. ⌜ now (ledger .exit) ≡ written (ledgerWords (settledLedger (now (ledger .entry)) (now (file .entry)))) (now (ledger .entry)) ⌝ }
-    ensures { λ _. ⌜ now (result .exit) ≡ written (resultWords (assessedFile (now (ledger .entry)) (now (file .entry)))) (now (result .entry)) ⌝ }
+    ensures { λ _.
+        ⌜ now (ledger .exit)
+        ≡ written (ledgerWords (settledLedger (now (ledger .entry)) (now (file .entry)))) (now (ledger .entry)) ⌝ }
+    ensures { λ _.
+        ⌜ now (result .exit)
+        ≡ written (resultWords (assessedFile (now (ledger .entry)) (now (file .entry)))) (now (result .entry)) ⌝ }
 {
     let sums = charge_rows(ledger, s, file, h, ratio, result);
     let pool = s.carried.plus(sums.charges);
@@ -93,11 +104,14 @@ fn write_settled(
     write_standing(ledger, standing);
 }
 
-// Settles an interval file: answers 0, or the first ground of 6 to 16 that applies and leaves ledger and result as they were.
+// Settles an interval file: answers 0, or the first ground of 6 to 16 and 18 that applies, in checking order,
+// and leaves ledger and result as they were.
 pub fn settle_file(ledger: &mut [u8], file: &[u8], result: &mut [u8]) -> u32
     ensures answer { λ r. ⌜ r ≡ settlingOf (now (ledger .entry)) (now (file .entry)) (now (result .entry)) .ground ⌝ }
-    ensures ledger_bytes { λ r. ⌜ now (ledger .exit) ≡ settlingOf (now (ledger .entry)) (now (file .entry)) (now (result .entry)) .ledger ⌝ }
-    ensures result_bytes { λ r. ⌜ now (result .exit) ≡ settlingOf (now (ledger .entry)) (now (file .entry)) (now (result .entry)) .result ⌝ }
+    ensures ledger_bytes { λ r.
+        ⌜ now (ledger .exit) ≡ settlingOf (now (ledger .entry)) (now (file .entry)) (now (result .entry)) .ledger ⌝ }
+    ensures result_bytes { λ r.
+        ⌜ now (result .exit) ≡ settlingOf (now (ledger .entry)) (now (file .entry)) (now (result .entry)) .result ⌝ }
 {
     if not_a_ledger(ledger) {
         return 6;

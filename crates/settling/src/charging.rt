@@ -24,7 +24,8 @@ pub struct Sums {
     pub bonus: Kilowatts,
 }
 
-// Adds up charges and bonuses, and writes the words of every row but for its credit into a result that has room for them.
+// Adds up charges and bonuses, and writes the words of every row but for its credit
+// into a result that has room for them.
 pub fn charge_rows(
     ledger: &[u8],
     s: Standing,
@@ -38,7 +39,9 @@ pub fn charge_rows(
     requires { ⌜ ratio .numerator .0 ≤ mostNumerator ⌝ }
     ensures { λ r. ⌜ r .charges .0 ≡ charges (assessedFile (now (ledger .entry)) (now (file .entry))) ⌝ }
     ensures { λ r. ⌜ r .bonus .0 ≡ totalBonus (assessedFile (now (ledger .entry)) (now (file .entry))) ⌝ }
-    ensures { λ _. ⌜ now (result .exit) ≡ chargedResult (assessedFile (now (ledger .entry)) (now (file .entry))) (now (result .entry)) ⌝ }
+    ensures { λ _.
+        ⌜ now (result .exit)
+        ≡ chargedResult (assessedFile (now (ledger .entry)) (now (file .entry))) (now (result .entry)) ⌝ }
 {
     let terms = s.terms;
     let mut charges = Cents(0);

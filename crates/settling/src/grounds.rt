@@ -28,7 +28,8 @@ fn other_terms(s: Standing, h: Header) -> bool
     h.days != terms.days
 }
 
-// Ground 12, of a ledger whose ids rise: a row whose id does not rise, or has no account, is not found before the accounts end.
+// Ground 12, of a ledger whose ids rise: a row whose id does not rise, or has no account,
+// is not found before the accounts end.
 fn row_ids_unknown(ledger: &[u8], s: Standing, file: &[u8], h: Header) -> bool
     requires { ⌜ LedgerRead (now ledger) s ⌝ }
     requires { ⌜ Tabled (now file) h ⌝ }

@@ -21,7 +21,8 @@ ghost use Rattle.ledger.specs.Ledger.{ledgerHeaderBytes, accountWords, ledgerOf
 ghost use Rattle.settling.specs.Settling.{resultHeaderBytes, resultBytes, assessedFile, rowsWords, postedAll};
 ghost use Rattle.settling.specs.Values.{Passed};
 
-// Writes the credit of every row, its share by its bonus, and posts charge and credit to its account. Answers the credits' sum.
+// Writes the credit of every row, its share by its bonus, and posts charge and credit to its account.
+// Answers the credits' sum.
 pub fn post_rows(
     ledger: &mut [u8],
     s: Standing,
@@ -32,14 +33,18 @@ pub fn post_rows(
 ) -> Cents
     requires { ⌜ Passed (now ledger) s (now file) h ⌝ }
     requires { ⌜ resultBytes (h .rows) ≤ length (now result) ⌝ }
-    requires { ⌜ now result ≡ writtenAt resultHeaderBytes (rowsWords (λ c. 0) (assessedFile (now ledger) (now file) .rows)) (now result) ⌝ }
+    requires { ⌜ now result
+        ≡ writtenAt resultHeaderBytes (rowsWords (λ c. 0) (assessedFile (now ledger) (now file) .rows)) (now result) ⌝ }
     requires { ⌜ share .pool .0 ≡ pool (assessedFile (now ledger) (now file)) ⌝ }
     requires { ⌜ share .pool .0 ≤ mostCents ⌝ }
     requires { ⌜ share .bonus .0 ≡ totalBonus (assessedFile (now ledger) (now file)) ⌝ }
     ensures { λ r. ⌜ r .0 ≡ credits (assessedFile (now (ledger .entry)) (now (file .entry))) ⌝ }
     ensures { λ _.
         let v = assessedFile (now (ledger .entry)) (now (file .entry)) in
-        ⌜ now (ledger .exit) ≡ writtenAt ledgerHeaderBytes (accountWords (map (postedAll v (v .rows)) (ledgerOf (now (ledger .entry)) .accounts))) (now (ledger .entry)) ⌝ }
+        ⌜ now (ledger .exit)
+        ≡ writtenAt ledgerHeaderBytes
+        (accountWords (map (postedAll v (v .rows)) (ledgerOf (now (ledger .entry)) .accounts)))
+        (now (ledger .entry)) ⌝ }
     ensures { λ _.
         let v = assessedFile (now (ledger .entry)) (now (file .entry)) in
         ⌜ now (result .exit) ≡ writtenAt resultHeaderBytes (rowsWords (credit v) (v .rows)) (now (result .entry)) ⌝ }

@@ -62,8 +62,12 @@ pub fn write_row(result: &mut [u8], rows: usize, i: usize, f: Figures, charge: C
     requires { ⌜ rows ≤ mostRows ⌝ }
     requires { ⌜ i < rows ⌝ }
     ensures { λ _.
-        let words = f .expected .0 ∷ f .actual .0 ∷ f .outage .0 ∷ f .economic .0 ∷ f .shortfall .0 ∷ f .bonus .0 ∷ charge .0 ∷ 0 ∷ [] in
-        ⌜ now (result .exit) ≡ cond (ltb (length (now (result .entry))) (resultBytes rows)) (now (result .entry)) (writtenAt (resultBytes i) words (now (result .entry))) ⌝ }
+        let words =
+        f .expected .0 ∷ f .actual .0 ∷ f .outage .0 ∷ f .economic .0 ∷ f .shortfall .0 ∷ f .bonus .0
+        ∷ charge .0 ∷ 0 ∷ [] in
+        ⌜ now (result .exit)
+        ≡ cond (ltb (length (now (result .entry))) (resultBytes rows)) (now (result .entry))
+        (writtenAt (resultBytes i) words (now (result .entry))) ⌝ }
 {
     if result.len() < result_bytes(rows) {
         return;
@@ -123,7 +127,8 @@ pub fn balance_at(result: &[u8], i: usize) -> Balance
 pub fn write_credit(result: &mut [u8], i: usize, credit: Cents)
     requires { ⌜ i < mostRows ⌝ }
     requires { ⌜ resultBytes (i + 1) ≤ length (now result) ⌝ }
-    ensures { λ _. ⌜ now (result .exit) ≡ writtenAt (resultBytes i + creditOffset) (credit .0 ∷ []) (now (result .entry)) ⌝ }
+    ensures { λ _.
+        ⌜ now (result .exit) ≡ writtenAt (resultBytes i + creditOffset) (credit .0 ∷ []) (now (result .entry)) ⌝ }
 {
     put64(result, SUMMARY_BYTES + RESULT_ROW_BYTES * i + 56, credit.0);
 }
@@ -133,7 +138,9 @@ pub fn write_summary(result: &mut [u8], s: Summary)
     requires { ⌜ resultHeaderBytes ≤ length (now result) ⌝ }
     requires { ⌜ s .ratio .numerator .0 ≤ mostNumerator ⌝ }
     ensures { λ _.
-        let words = printedRatio (ratioIn (s .ratio)) ∷ s .charges .0 ∷ s .credits .0 ∷ s .carried .0 ∷ s .bonus .0 ∷ s .ratio .numerator .0 ∷ s .ratio .denominator .0 ∷ s .rows ∷ [] in
+        let words =
+        printedRatio (ratioIn (s .ratio)) ∷ s .charges .0 ∷ s .credits .0 ∷ s .carried .0 ∷ s .bonus .0
+        ∷ s .ratio .numerator .0 ∷ s .ratio .denominator .0 ∷ s .rows ∷ [] in
         ⌜ now (result .exit) ≡ written words (now (result .entry)) ⌝ }
 {
     let ratio = s.ratio;

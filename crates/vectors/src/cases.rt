@@ -1,4 +1,5 @@
-// One case each: a file of up to three rows, settled into a ledger of plants 1, 2 and 3, and one figure of its result printed.
+// One case each: a file of up to three rows, settled into a ledger of plants 1, 2 and 3,
+// and one figure of its result printed.
 // What a refused call leaves is shown too: every byte of ledger and result begins as 255.
 
 use figures::layout::Header;

@@ -21,7 +21,8 @@ const BELOW_ZERO: [u64; 4] = [0x1_0000_0000 - 300, 0, 0x1_0000_0000 - 293, 10];
 
 const PRD: [u64; 4] = [500, 0, 2000, 3000];
 
-// An energy-only row with curve A's limits that gives more than it can be scheduled for, so that its bonus is the scheduled kW.
+// An energy-only row with curve A's limits that gives more than it can be scheduled for,
+// so that its bonus is the scheduled kW.
 fn on_a(online: u64, lmp: u64) -> Row {
     [
         1,
@@ -109,7 +110,8 @@ pub fn show_short(label: &[u8], cone: u64, days: u64, kw: u64)
     show(label, header(cone, days, 1, 0), &row, &[], 0, CHARGE);
 }
 
-// Prints whether a ledger whose plant 1 is charged so much on a commitment is one, 0 if it is: the limit is the most that is.
+// Prints whether a ledger whose plant 1 is charged so much on a commitment is one, 0 if it is:
+// the limit is the most that is.
 pub fn show_charged(label: &[u8], cone: u64, days: u64, kw: u64, cents: u64)
     requires { ⌜ length (now label) ≤ labelRoom ⌝ }
 {

@@ -1,4 +1,5 @@
-// Settles the figures of document 01 and of the trade's sources by the calls that C makes, and prints one line a figure.
+// Settles the figures of document 01 and of the trade's sources by the calls that C makes,
+// and prints one line a figure.
 
 mod cases;
 mod document;

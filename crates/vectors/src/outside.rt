@@ -1,4 +1,6 @@
-// Figures of the trade's sources under document 01's rules: PJM's review of the October 2019 event, the settlement summary, and section 10A of the tariff. Charges are to the nearest cent, as published; a credit is rounded down.
+// Figures of the trade's sources under document 01's rules: PJM's review of the October 2019 event,
+// the settlement summary, and section 10A of the tariff. Charges are to the nearest cent, as published;
+// a credit is rounded down.
 
 use crate::cases::BONUS;
 use crate::cases::CHARGE;

@@ -5,7 +5,8 @@ use mathlib.Core.Bool.{Bool, cond, _||_, _&&_}
 use lib.IntN.{ℤ, natAbs}
 use lib.Dec.{ltb, leb}
 
--- grounds in checking order, each with whether it applies and its number: the first that applies is answered, 0 if none does
+-- grounds in checking order, each with whether it applies and its number:
+-- the first that applies is answered, 0 if none does
 unfoldable pub answered : List (Bool × ℕ) → ℕ
 answered [] = 0
 answered (g ∷ gs) = cond (g .0) (g .1) (answered gs)

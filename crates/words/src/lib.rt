@@ -5,7 +5,15 @@ ghost use mathlib.Core.List.{_∷_, []};
 ghost use Prim.Native.Nat.{_+_, _*_, _≤_, _<_, _^_};
 ghost use lib.ListN.{length};
 ghost use lib.Signed.{mag};
-ghost use Rattle.words.specs.Words.{bytesOf, numberAt, signed as signedOf, bytesOfWords, placedAt, written, writtenAt};
+ghost use Rattle.words.specs.Words.{
+  bytesOf,
+  numberAt,
+  signed as signedOf,
+  bytesOfWords,
+  placedAt,
+  written,
+  writtenAt,
+};
 
 fn wide(x: u8) -> u64
     ensures { λ r. ⌜ r ≡ x ⌝ }

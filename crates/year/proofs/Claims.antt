@@ -195,7 +195,7 @@ module _ (ledger file result : List ℕ) (s : Accepted ledger file result) where
       let n = length-map (ledgerOf ledger .accounts) (postedAll w (w .rows)) in
       length-ledger (settledLedger ledger file) ledger (rw n (ledger-room ledger (s .ledger-holds)))
 
--- settling answers 0 or 6 to 16, a refusal changes no byte of ledger or result, and the lengths stay
+-- settling answers 0, 6 to 16 or 18, a refusal changes no byte of ledger or result, and the lengths stay
 pub settling-refusals : SettlingRefusals
 unfolding SettlingRefusals
 settling-refusals ledger file result = by (eqb g 0) refl

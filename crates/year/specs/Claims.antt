@@ -91,7 +91,9 @@ pub record IsCalls (ledger : List ℕ) (e : EventCall) (a : EventAnswer) (calls 
 
 -- An event is the calls of settling that it makes: for every ledger and all buffers
 unfoldable pub EventIsCalls : Type 0
-EventIsCalls = (ledger : List ℕ) (e : EventCall) → IsCalls ledger e (event ledger (e .files) (e .result) (e .count)) (eventCalls ledger e)
+EventIsCalls =
+    (ledger : List ℕ) (e : EventCall)
+    → IsCalls ledger e (event ledger (e .files) (e .result) (e .count)) (eventCalls ledger e)
 
 -- a buffer after words were written to it: each word read back is the number meant, and the bytes beyond are as they
 -- were
@@ -102,7 +104,8 @@ pub record Holds (words before after : List ℕ) : Type 0 where
 -- Read back, of opening: the ledger that an accepted call leaves
 unfoldable pub OpeningReadsBack : Type 0
 OpeningReadsBack =
-    (block ledger : List ℕ) → Bytes block → opening block ledger .ground ≡ 0 → Holds (ledgerWords (openedLedger block)) ledger (opening block ledger .ledger)
+    (block ledger : List ℕ) → Bytes block → opening block ledger .ground ≡ 0
+    → Holds (ledgerWords (openedLedger block)) ledger (opening block ledger .ledger)
 
 -- what an accepted call of settling leaves
 pub record ReadsBack (ledger file result : List ℕ) (a : SettlingAnswer) : Type 0 where
@@ -114,7 +117,8 @@ pub record ReadsBack (ledger file result : List ℕ) (a : SettlingAnswer) : Type
 -- Read back, of settling: for every call accepted on a ledger of bytes, a foreign one too
 unfoldable pub SettlingReadsBack : Type 0
 SettlingReadsBack =
-    (ledger file result : List ℕ) → Bytes ledger → settling ledger file result .ground ≡ 0 → ReadsBack ledger file result (settling ledger file result)
+    (ledger file result : List ℕ) → Bytes ledger → settling ledger file result .ground ≡ 0
+    → ReadsBack ledger file result (settling ledger file result)
 
 -- what holds of every answer of opening: 0, 1 to 5 or 23, a refusal changes no byte, the length never changes
 pub record OpeningAnswers (ledger : List ℕ) (a : OpeningAnswer) : Type 0 where

@@ -1,4 +1,5 @@
--- A year of settling calls, with files and with events: the intervals and the rows that they gave, read back from the result bytes.
+-- A year of settling calls, with files and with events: the intervals and the rows that they gave,
+-- read back from the result bytes.
 use Prim.Native.Nat.{ℕ, zero, suc, _+_, max}
 use mathlib.Core.List.{List, [], _∷_, _++_}
 use mathlib.Core.Bool.{cond}
@@ -30,7 +31,14 @@ pub record GivenRow : Type 0 where
 unfoldable pub givenFrom : List Row → List ℕ → List GivenRow
 givenFrom [] b = []
 givenFrom (r ∷ rs) b =
-    record { id = r .id; committed = r .committed; shortfall = word64 b 4; bonus = word64 b 5; charge = word64 b 6; credit = word64 b 7 }
+    record {
+      id = r .id;
+      committed = r .committed;
+      shortfall = word64 b 4;
+      bonus = word64 b 5;
+      charge = word64 b 6;
+      credit = word64 b 7;
+    }
     ∷ givenFrom rs (drop resultRowBytes b)
 
 -- the rows that an accepted call gave, as it left them in the result
@@ -48,7 +56,13 @@ pub record GivenInterval : Type 0 where
 -- the interval that an accepted call gave, as it left it in the result
 unfoldable pub intervalBy : List ℕ → List ℕ → GivenInterval
 intervalBy file result =
-    record { charges = word64 result 1; credits = word64 result 2; carried = word64 result 3; bonus = word64 result 4; rows = givenBy file result }
+    record {
+      charges = word64 result 1;
+      credits = word64 result 2;
+      carried = word64 result 3;
+      bonus = word64 result 4;
+      rows = givenBy file result;
+    }
 
 -- after some calls: the ledger, the intervals given, all their rows, and the interval of the last accepted file
 pub record Year : Type 0 where
@@ -59,7 +73,12 @@ pub record Year : Type 0 where
 
 -- a year before any call: nothing is given, and the last interval is one of zeros
 unfoldable pub newYear : List ℕ → Year
-newYear ledger = record { ledger = ledger; intervals = []; given = []; last = record { charges = 0; credits = 0; carried = 0; bonus = 0; rows = [] } }
+newYear ledger = record {
+  ledger = ledger;
+  intervals = [];
+  given = [];
+  last = record { charges = 0; credits = 0; carried = 0; bonus = 0; rows = [] };
+}
 
 -- a year after a call that had this answer; a refused one gives nothing
 unfoldable pub afterAnswer : Year → Call → SettlingAnswer → Year
@@ -78,7 +97,8 @@ unfoldable pub afterCalls : Year → List Call → Year
 afterCalls y [] = y
 afterCalls y (c ∷ cs) = afterCalls (afterCall y c) cs
 
--- the calls of settling that what comes next in an event makes: one, with what is left of the result buffer, and those of the later files if it is accepted
+-- the calls of settling that what comes next in an event makes:
+-- one, with what is left of the result buffer, and those of the later files if it is accepted
 unfoldable pub callsNext : (List ℕ → List ℕ → List ℕ → List Call) → List ℕ → List ℕ → Next → List Call
 callsNext later ledger result (Next.stop e) = []
 callsNext later ledger result (Next.block file rest) =
@@ -122,7 +142,9 @@ unfoldable pub resultsLeft : List ℕ → List Call → List (List ℕ)
 resultsLeft ledger [] = []
 resultsLeft ledger (c ∷ cs) =
     let a = settling ledger (c .file) (c .result) in
-    cond (eqb (a .ground) 0) (take (resultBytes (headerOf (c .file) .rowCount)) (a .result) ∷ resultsLeft (a .ledger) cs) (resultsLeft (a .ledger) cs)
+    cond (eqb (a .ground) 0)
+    (take (resultBytes (headerOf (c .file) .rowCount)) (a .result) ∷ resultsLeft (a .ledger) cs)
+    (resultsLeft (a .ledger) cs)
 
 -- what stands in the result buffer of an event for the file that comes next, and for later ones
 unfoldable pub resultsNext : (List ℕ → List ℕ → List (List ℕ)) → List ℕ → Next → List (List ℕ)
