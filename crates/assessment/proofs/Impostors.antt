@@ -1,9 +1,21 @@
--- Traps of the desk as rules that could pass for the definitions, and for each a row that tells it from them, by computing it.
+-- Traps of the desk as rules that could pass for the definitions, and for each a row that tells it from them,
+-- by computing it.
 use Prim.Native.Nat.{ℕ, _-_, min, max}
 use mathlib.Core.Path.{_≡_}
 use native.Mathlib.Omega.{arith}
 use lib.IntN.{pos}
-use Rattle.reading.specs.Interval.{Row, Kind, generation, demand, efficiency, responsive, energyOnly, importer, noKind, kindOf}
+use Rattle.reading.specs.Interval.{
+  Row,
+  Kind,
+  generation,
+  demand,
+  efficiency,
+  responsive,
+  energyOnly,
+  importer,
+  noKind,
+  kindOf,
+}
 use Rattle.assessment.specs.Assessment.{
   actual,
   scheduled,

@@ -5,7 +5,17 @@ use mathlib.Core.Bool.{false}
 use native.Mathlib.Omega.{arith}
 use borrow.Author.Tests.{ne-eqb}
 use lib.Dec.{eqb}
-use Rattle.reading.specs.Interval.{Kind, generation, demand, efficiency, responsive, energyOnly, importer, noKind, kindOf}
+use Rattle.reading.specs.Interval.{
+  Kind,
+  generation,
+  demand,
+  efficiency,
+  responsive,
+  energyOnly,
+  importer,
+  noKind,
+  kindOf,
+}
 
 -- what holds of each kind, and of no kind, holds of any
 pub each-kind : (P : Kind → Type 0) → P generation → P demand → P efficiency → P responsive → P energyOnly → P importer

@@ -4,7 +4,15 @@ use mathlib.Core.Path.{_≡_, refl, ap, _∙_}
 use mathlib.Core.Bool.{Bool, true, false, cond}
 use lib.Dec.{eqb}
 use borrow.Author.Tests.{eq-eqb, ne-eqb}
-use native.Mathlib.Nat.{mul-assoc, mul-le-mul-left, mul-le-mul, div-zero, div-eq-of-lt, div-mul-le-self, le-div-iff-mul-le}
+use native.Mathlib.Nat.{
+  mul-assoc,
+  mul-le-mul-left,
+  mul-le-mul,
+  div-zero,
+  div-eq-of-lt,
+  div-mul-le-self,
+  le-div-iff-mul-le,
+}
 use native.Mathlib.Omega.{arith}
 use Rattle.reading.specs.Block.{Terms, mostNetCone, leapYear, transitionYear}
 use Rattle.reading.specs.Interval.{mostKilowatts}
@@ -68,7 +76,8 @@ module _ (t : Terms) where
   least-divisors = by (eqb (t .year) transitionYear)
     where
       of : Bool → Divisors
-      of transition = cond transition (record { limit = 4000; charge = 720000 }) (record { limit = 2000; charge = 360000 })
+      of transition =
+          cond transition (record { limit = 4000; charge = 720000 }) (record { limit = 2000; charge = 360000 })
 
       by : (transition : Bool) → (2000 ≤ of transition .limit) × (360000 ≤ of transition .charge)
       by true = (omega arith, omega arith)
@@ -134,7 +143,8 @@ unfolding charge
 charge-le-full t a short = omega arith
 
 -- on terms within their bounds and for at most the most kW it is at most the largest charge
-pub charge-most : (t : Terms) (a : Account) (short : ℕ) → TermsIn t → short ≤ mostKilowatts → charge t a short ≤ mostCharge
+pub charge-most : (t : Terms) (a : Account) (short : ℕ) → TermsIn t → short ≤ mostKilowatts
+    → charge t a short ≤ mostCharge
 charge-most t a short i k = omega (arith, charge-le-full t a short, full-charge-le t short i k)
 
 -- a charge to a raised account is at most what is left under its limit
@@ -149,14 +159,16 @@ unfolding LimitOfTariff WithinTariff hundredths limit limitOver divisors
 limit-of-tariff t kw cents = by (eqb (t .year) transitionYear)
   where
     of : Bool → Divisors
-    of transition = cond transition (record { limit = 4000; charge = 720000 }) (record { limit = 2000; charge = 360000 })
+    of transition =
+        cond transition (record { limit = 4000; charge = 720000 }) (record { limit = 2000; charge = 360000 })
 
     product : ℕ
     product = t .netCone * t .days * kw
 
     grouped : limitFactor * t .netCone * t .days * kw ≡ limitFactor * product
     grouped =
-        ap (λ x. x * kw) (mul-assoc limitFactor (t .netCone) (t .days)) ∙ mul-assoc limitFactor (t .netCone * t .days) kw
+        ap (λ x. x * kw) (mul-assoc limitFactor (t .netCone) (t .days))
+        ∙ mul-assoc limitFactor (t .netCone * t .days) kw
 
     by : (transition : Bool)
         → (cents ≤ limitFactor * t .netCone * t .days * kw / of transition .limit

@@ -84,7 +84,8 @@ pub expected-le : (q : Ratio) (r : Row) → expected q r ≤ r .committed
 unfolding expected expectedAs
 expected-le q r =
     each-kind (λ k. expectedAs k q r ≤ r .committed)
-    (portion-le q (r .committed)) (omega arith) (omega arith) (omega arith) (omega arith) (omega arith) (omega arith) (kindOf (r .kind))
+    (portion-le q (r .committed)) (omega arith) (omega arith) (omega arith) (omega arith) (omega arith) (omega arith)
+    (kindOf (r .kind))
 
 -- the kW that a bonus is taken from are at most the actual
 bonus-actual-le : (k : Kind) (r : Row) → bonusActualAs k r ≤ actual r
@@ -221,7 +222,8 @@ import-share-le h i = by (eqb (h .regionWide) 1)
     by false = omega arith
 
 -- the numerator of a file that grounds 9, 11 and 13 do not refuse
-pub numerator-le : (h : Header) (rs : List Row) → HeaderIn h → length rs ≤ mostRows → ((r : Row) → List·Memᴰ r rs → RowIn r)
+pub numerator-le : (h : Header) (rs : List Row) → HeaderIn h → length rs ≤ mostRows
+    → ((r : Row) → List·Memᴰ r rs → RowIn r)
     → numerator h rs ≤ mostNumerator
 unfolding numerator
 numerator-le h rs i few rows =
@@ -234,7 +236,8 @@ pub denominator-share-le : (r : Row) → RowIn r → denominatorShare r ≤ most
 unfolding denominatorShare denominatorShareAs
 denominator-share-le r i =
     each-kind (λ k. denominatorShareAs k r ≤ mostKilowatts)
-    (i .committed) (omega arith) (omega arith) (omega arith) (omega arith) (omega arith) (omega arith) (kindOf (r .kind))
+    (i .committed) (omega arith) (omega arith) (omega arith) (omega arith) (omega arith) (omega arith)
+    (kindOf (r .kind))
 
 -- the denominator is at most the most kW for each of the most rows
 pub denominator-le : (rs : List Row) → length rs ≤ mostRows → ((r : Row) → List·Memᴰ r rs → RowIn r)

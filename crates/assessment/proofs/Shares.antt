@@ -1,4 +1,5 @@
--- The shares of a pool, each rounded down: together at most the pool, and the rest is less than the number of shares above 0.
+-- The shares of a pool, each rounded down: together at most the pool,
+-- and the rest is less than the number of shares above 0.
 use Prim.Native.Nat.{ℕ, _+_, _*_, _/_, _<_, _≤_}
 use mathlib.Core.Path.{_≡_, refl, ap, _∙_}
 use mathlib.Core.List.{List, [], _∷_}
@@ -25,7 +26,8 @@ unfolding sum
 counted w [] h = h
 counted w (x ∷ xs) h = by (ltb 0 (w x)) refl (counted w xs)
   where
-    by : (t : Bool) → ltb 0 (w x) ≡ t → (0 < sum w xs → 0 < sum (λ y. cond (ltb 0 (w y)) 1 0) xs) → 0 < cond t 1 0 + sum (λ y. cond (ltb 0 (w y)) 1 0) xs
+    by : (t : Bool) → ltb 0 (w x) ≡ t → (0 < sum w xs → 0 < sum (λ y. cond (ltb 0 (w y)) 1 0) xs)
+        → 0 < cond t 1 0 + sum (λ y. cond (ltb 0 (w y)) 1 0) xs
     by true e below = omega arith
     by false e below = omega (arith, below (omega (arith, ltb-false 0 (w x) e)))
 
@@ -38,7 +40,8 @@ module _ {A : Type 0} (w : A → ℕ) (cents whole : ℕ) where
   shares-le (x ∷ xs) = omega (arith, div-mul-le-self (w x * cents) whole, shares-le xs)
 
   -- a share above 0 falls short of its part by less than one whole
-  share-rest : (x : A) → 0 < whole → w x * cents + cond (ltb 0 (w x)) 1 0 ≤ w x * cents / whole * whole + cond (ltb 0 (w x)) 1 0 * whole
+  share-rest : (x : A) → 0 < whole
+      → w x * cents + cond (ltb 0 (w x)) 1 0 ≤ w x * cents / whole * whole + cond (ltb 0 (w x)) 1 0 * whole
   share-rest x p = by (ltb 0 (w x)) refl
     where
       by : (t : Bool) → ltb 0 (w x) ≡ t → w x * cents + cond t 1 0 ≤ w x * cents / whole * whole + cond t 1 0 * whole
@@ -47,7 +50,8 @@ module _ {A : Type 0} (w : A → ℕ) (cents whole : ℕ) where
 
   -- together they fall short of their parts by at most one less than a whole for each weight above 0
   shares-rest : 0 < whole → (xs : List A)
-      → sum w xs * cents + sum (λ x. cond (ltb 0 (w x)) 1 0) xs ≤ (sum (λ x. w x * cents / whole) xs + sum (λ x. cond (ltb 0 (w x)) 1 0) xs) * whole
+      → sum w xs * cents + sum (λ x. cond (ltb 0 (w x)) 1 0) xs
+      ≤ (sum (λ x. w x * cents / whole) xs + sum (λ x. cond (ltb 0 (w x)) 1 0) xs) * whole
   unfolding sum
   shares-rest p [] = omega arith
   shares-rest p (x ∷ xs) = omega (arith, share-rest x p, shares-rest p xs)
@@ -76,7 +80,8 @@ module _ {A : Type 0} (w : A → ℕ) (cents : ℕ) (xs : List A) where
       by true e = omega (arith, none-shared e)
       by false e =
           let some : 0 < whole = omega (arith, eqb-false whole 0 e) in
-          let k : sum (λ x. share cents whole (w x)) xs * whole ≤ cents * whole = rw (all-shared e) (omega (arith, shares-le w cents whole xs)) in
+          let k : sum (λ x. share cents whole (w x)) xs * whole ≤ cents * whole = rw (all-shared e)
+          (omega (arith, shares-le w cents whole xs)) in
           le-of-mul-le-mul-right k some
 
   -- what is not shared is less than the weights above 0

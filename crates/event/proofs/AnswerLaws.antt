@@ -17,13 +17,15 @@ module _ (ledger files result count : List ℕ) where
   s = settledFiles (length files + 1) ledger files result
 
   -- without room nothing is written
-  pub no-room : length count < countBytes → event ledger files result count ≡ record { ground = countTooShort; ledger = ledger; result = result; count = count }
+  pub no-room : length count < countBytes → event ledger files result count
+      ≡ record { ground = countTooShort; ledger = ledger; result = result; count = count }
   unfolding event
   no-room short = rw (lt-ltb (length count) countBytes short)
 
   -- with room the number of files settled is written to its front
   pub with-room : countBytes ≤ length count
-      → event ledger files result count ≡ record { ground = s .ground; ledger = s .ledger; result = s .result; count = written (s .files ∷ []) count }
+      → event ledger files result count
+      ≡ record { ground = s .ground; ledger = s .ledger; result = s .result; count = written (s .files ∷ []) count }
   unfolding event
   with-room room = rw (le-ltb (length count) countBytes room)
 
@@ -35,7 +37,8 @@ module _ (ledger files result count : List ℕ) where
       (ap (λ e. e .ground) is, (ap (λ e. e .ledger) is, (ap (λ e. e .result) is, ap (λ e. e .count) is)))
 
   -- with room, the answer and the buffers, once the number is written
-  pub long-answer : (after put counted : List ℕ) (v : SettledValue) → countBytes ≤ length count → FilesSettled s after put v
+  pub long-answer : (after put counted : List ℕ) (v : SettledValue) → countBytes ≤ length count
+      → FilesSettled s after put v
       → counted ≡ writtenAt 0 (v .files ∷ []) count
       → let e = event ledger files result count in
       (v .ground ≡ e .ground) × ((after ≡ e .ledger) × ((put ≡ e .result) × (counted ≡ e .count)))

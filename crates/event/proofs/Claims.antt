@@ -19,7 +19,8 @@ use Rattle.event.specs.Claims.{TurnsAreEnough, RefusedTurn}
 
 -- a turn whose later files are settled alike leaves the same
 turn-same : (x y : List ℕ → List ℕ → List ℕ → Settled) (ledger result : List ℕ) (n : Next)
-    → ((file rest : List ℕ) → n ≡ Next.block file rest → (l r : List ℕ) → x l rest r ≡ y l rest r) → turn x ledger result n ≡ turn y ledger result n
+    → ((file rest : List ℕ) → n ≡ Next.block file rest → (l r : List ℕ) → x l rest r ≡ y l rest r)
+    → turn x ledger result n ≡ turn y ledger result n
 unfolding turn
 turn-same x y ledger result (Next.stop End.ended) same = refl
 turn-same x y ledger result (Next.stop End.cut) same = refl
@@ -27,10 +28,12 @@ turn-same x y ledger result (Next.stop End.overLong) same = refl
 turn-same x y ledger result (Next.block file rest) same =
     let a = settling ledger file result in
     let n = resultBytes (headerOf file .rowCount) in
-    ap (λ s. cond (eqb (a .ground) 0) (oneFile (take n (a .result)) s) (noFile (a .ground) (a .ledger) (a .result))) (same file rest refl (a .ledger) (drop n (a .result)))
+    ap (λ s. cond (eqb (a .ground) 0) (oneFile (take n (a .result)) s) (noFile (a .ground) (a .ledger) (a .result)))
+    (same file rest refl (a .ledger) (drop n (a .result)))
 
 -- one turn more than the buffer has bytes changes nothing
-one-more : (budget : ℕ) (ledger files result : List ℕ) → length files < budget → settledFiles (suc budget) ledger files result ≡ settledFiles budget ledger files result
+one-more : (budget : ℕ) (ledger files result : List ℕ) → length files < budget
+    → settledFiles (suc budget) ledger files result ≡ settledFiles budget ledger files result
 unfolding settledFiles
 one-more zero ledger files result h = absurd (omega arith)
 one-more (suc budget) ledger files result h =
@@ -38,11 +41,13 @@ one-more (suc budget) ledger files result h =
     (λ file rest is l r. one-more budget l rest r (omega (arith, rest-left mostLength files file rest is .1)))
 
 -- nor do any more
-many-more : (more : ℕ) (ledger files result : List ℕ) → settledFiles (more + (length files + 1)) ledger files result ≡ settledFiles (length files + 1) ledger files result
+many-more : (more : ℕ) (ledger files result : List ℕ)
+    → settledFiles (more + (length files + 1)) ledger files result ≡ settledFiles (length files + 1) ledger files result
 many-more zero ledger files result = ap (λ b. settledFiles b ledger files result) (omega arith)
 many-more (suc more) ledger files result =
     let next : suc more + (length files + 1) ≡ suc (more + (length files + 1)) = omega arith in
-    ap (λ b. settledFiles b ledger files result) next ∙ one-more (more + (length files + 1)) ledger files result (omega arith) ∙ many-more more ledger files result
+    ap (λ b. settledFiles b ledger files result) next
+    ∙ one-more (more + (length files + 1)) ledger files result (omega arith) ∙ many-more more ledger files result
 
 -- a budget greater than the number of bytes is enough
 pub turns-are-enough : TurnsAreEnough
@@ -59,7 +64,8 @@ refused-leaves ledger file result e = by (eqb g 0) refl
     g : ℕ
     g = answered (settlingGrounds ledger file result)
 
-    by : (t : Bool) → eqb g 0 ≡ t → (settling ledger file result .ledger ≡ ledger) × (settling ledger file result .result ≡ result)
+    by : (t : Bool) → eqb g 0 ≡ t
+        → (settling ledger file result .ledger ≡ ledger) × (settling ledger file result .result ≡ result)
     by true q = never (sym e ∙ ap (λ a. eqb (a .ground) 0) (settling-accepts ledger file result (eqb-true g 0 q)))
     by false q = let a = settling-refuses ledger file result q in (ap (λ a. a .ledger) a, ap (λ a. a .result) a)
 
@@ -74,7 +80,8 @@ unfolding RefusedTurn turn noFile
 refused-turn later ledger result (Next.stop End.ended) none = (refl, refl)
 refused-turn later ledger result (Next.stop End.cut) none = (refl, refl)
 refused-turn later ledger result (Next.stop End.overLong) none = (refl, refl)
-refused-turn later ledger result (Next.block file rest) none = by (eqb (settling ledger file result .ground) 0) refl none
+refused-turn later ledger result (Next.block file rest) none =
+    by (eqb (settling ledger file result .ground) 0) refl none
   where
     a : SettlingAnswer
     a = settling ledger file result
@@ -83,7 +90,8 @@ refused-turn later ledger result (Next.block file rest) none = by (eqb (settling
     n = resultBytes (headerOf file .rowCount)
 
     s : Bool → Settled
-    s t = cond t (oneFile (take n (a .result)) (later (a .ledger) rest (drop n (a .result)))) (noFile (a .ground) (a .ledger) (a .result))
+    s t = cond t (oneFile (take n (a .result)) (later (a .ledger) rest (drop n (a .result))))
+        (noFile (a .ground) (a .ledger) (a .result))
 
     by : (t : Bool) → eqb (a .ground) 0 ≡ t → s t .files ≡ 0 → (s t .ledger ≡ ledger) × (s t .result ≡ result)
     by true e settled = absurd (some-file (later (a .ledger) rest (drop n (a .result))) (take n (a .result)) settled)

@@ -3,7 +3,17 @@ use mathlib.Core.Path.{refl}
 use Rattle.words.specs.Figures.{AllAsStated}
 use Rattle.stream.specs.Stream.{nextBlock}
 use Rattle.ledger.specs.Figures.{openedListing}
-use Rattle.settling.specs.Figures.{fileWith, row11, row12, row13, row14, listingPoints, listingFile, settledListing, resultListing}
+use Rattle.settling.specs.Figures.{
+  fileWith,
+  row11,
+  row12,
+  row13,
+  row14,
+  listingPoints,
+  listingFile,
+  settledListing,
+  resultListing,
+}
 use Rattle.settling.proofs.Computing.{computing}
 use Rattle.event.specs.Event.{noFile, oneFile, turn, settledFiles, event}
 use Rattle.event.specs.Figures.{framed, listingFramed, answers, settles, eventFigures, EventFigures}

@@ -31,7 +31,8 @@ module _ (files : List ℕ) (at : ℕ) (some : at < length files) where
       rw (ne-eqb (length (drop at files)) 0 (λ z. omega (arith, left)), lt-ltb (length (drop at files)) lengthBytes (omega (arith, left)))
 
   -- enough for a length n
-  module _ (n : ℕ) (long : lengthBytes ≤ length files - at) (is : n ≡ numberAt lengthBytes files at) (word : n < 2 ^ 32) where
+  module _ (n : ℕ) (long : lengthBytes ≤ length files - at) (is : n ≡ numberAt lengthBytes files at)
+      (word : n < 2 ^ 32) where
     -- the bytes after it
     abbrev rest : List ℕ
     rest = drop lengthBytes (drop at files)
@@ -41,7 +42,8 @@ module _ (files : List ℕ) (at : ℕ) (some : at < length files) where
     rest-is = drop-drop lengthBytes at files
 
     -- what comes next, by whether they are as many
-    by-length : nextBlock mostLength (drop at files) ≡ cond (ltb (length rest) n) (Next.stop End.cut) (Next.block (take n rest) (drop n rest))
+    by-length : nextBlock mostLength (drop at files)
+        ≡ cond (ltb (length rest) n) (Next.stop End.cut) (Next.block (take n rest) (drop n rest))
     unfolding nextBlock numberAt
     by-length =
         rw (
@@ -62,7 +64,8 @@ module _ (files : List ℕ) (at : ℕ) (some : at < length files) where
     whole-file from to starts ends fits =
         let size : n ≡ to - from = omega arith in
         let here : rest ≡ drop from files = rest-is ∙ ap (λ k. drop k files) (sym starts) in
-        let later : drop n rest ≡ drop to files = ap (drop n) here ∙ drop-drop n from files ∙ ap (λ k. drop k files) (sym ends) in
+        let later : drop n rest ≡ drop to files = ap (drop n) here ∙ drop-drop n from files
+        ∙ ap (λ k. drop k files) (sym ends) in
         by-length
         ∙ ap (λ t. cond t (Next.stop End.cut) (Next.block (take n rest) (drop n rest)))
         (le-ltb (length rest) n (omega (arith, ap length rest-is, length-drop (at + lengthBytes) files)))
@@ -71,13 +74,16 @@ module _ (files : List ℕ) (at : ℕ) (some : at < length files) where
 -- a part lent to the end of a buffer, put back as it was left
 put-back : (at : ℕ) (b part : List ℕ) → putMid at (length b - at) b part ≡ take at b ++ part
 put-back at b part =
-    let none : drop (length b - at) (drop at b) ≡ [] = drop-of-length-le (drop at b) {i = length b - at} (omega (arith, length-drop at b)) in
+    let none : drop (length b - at) (drop at b) ≡ [] = drop-of-length-le (drop at b) {i = length b - at}
+    (omega (arith, length-drop at b)) in
     ap (λ l. take at b ++ l) (ap (λ l. part ++ l) none ∙ append-nil part)
 
 -- the turn of a file, by the part of the result that the call was lent
-pub turn-taken : (ledger file result : List ℕ) (filled : ℕ) (after part : List ℕ) (t : TurnValue) → filled ≤ length result
+pub turn-taken : (ledger file result : List ℕ) (filled : ℕ) (after part : List ℕ) (t : TurnValue)
+    → filled ≤ length result
     → let lent = take (length result - filled) (drop filled result) in
-    t .ground ≡ settling ledger file lent .ground → after ≡ settling ledger file lent .ledger → part ≡ settling ledger file lent .result → length part ≡ length lent
+    t .ground ≡ settling ledger file lent .ground → after ≡ settling ledger file lent .ledger
+    → part ≡ settling ledger file lent .result → length part ≡ length lent
     → (t .ground ≡ 0 → t .filled ≡ filled + resultBytes (headerOf file .rowCount)) → t .filled ≤ length result
     → TurnTaken ledger file result filled after (putMid filled (length result - filled) result part) t
 turn-taken ledger file result filled after part t room ground left put kept fills within =

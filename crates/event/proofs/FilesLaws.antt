@@ -20,15 +20,18 @@ use Rattle.event.specs.declared.Settled.{Settled as SettledValue}
 
 -- what later files leave, after so many whose results stand in front
 unfoldable pub prefixed : ℕ → List ℕ → Settled → Settled
-prefixed n front s = record { ground = s .ground; ledger = s .ledger; result = front ++ s .result; files = n + s .files }
+prefixed n front s =
+    record { ground = s .ground; ledger = s .ledger; result = front ++ s .result; files = n + s .files }
 
 -- nothing stands before all that is left
 from-none : (s : Settled) → s ≡ prefixed 0 [] s
 unfolding prefixed
-from-none s = λ i. record { ground = s .ground; ledger = s .ledger; result = s .result; files = sym (zero-add (s .files)) i }
+from-none s =
+    λ i. record { ground = s .ground; ledger = s .ledger; result = s .result; files = sym (zero-add (s .files)) i }
 
 -- one file more stands before what is left
-prefixed-one : (n : ℕ) (front part : List ℕ) (later : Settled) → prefixed n front (oneFile part later) ≡ prefixed (n + 1) (front ++ part) later
+prefixed-one : (n : ℕ) (front part : List ℕ) (later : Settled)
+    → prefixed n front (oneFile part later) ≡ prefixed (n + 1) (front ++ part) later
 unfolding prefixed oneFile
 prefixed-one n front part later =
     let more : n + (later .files + 1) ≡ n + 1 + later .files = omega arith in
@@ -42,7 +45,8 @@ pub record Going (whole : Settled) (files ledger result : List ℕ) (settled at 
   pub rest : whole ≡ prefixed settled (take filled result) (settledFiles (length files + 1 - settled) ledger (drop at files) (drop filled result))
 
 -- before any file
-pub going-start : (files ledger result : List ℕ) → Going (settledFiles (length files + 1) ledger files result) files ledger result 0 0 0
+pub going-start : (files ledger result : List ℕ)
+    → Going (settledFiles (length files + 1) ledger files result) files ledger result 0 0 0
 going-start files ledger result =
     let s = settledFiles (length files + 1) ledger files result in
     let all : length files + 1 ≡ length files + 1 - 0 = omega arith in
@@ -54,7 +58,8 @@ going-start files ledger result =
     }
 
 -- an event that goes on
-module _ {whole : Settled} {files ledger result : List ℕ} {settled at filled : ℕ} (g : Going whole files ledger result settled at filled) where
+module _ {whole : Settled} {files ledger result : List ℕ} {settled at filled : ℕ}
+    (g : Going whole files ledger result settled at filled) where
   -- the turn of what comes next
   next-turn : (n : Next) → nextBlock mostLength (drop at files) ≡ n
       → whole ≡ prefixed settled (take filled result) (turn (settledFiles (length files - settled)) ledger (drop filled result) n)
@@ -79,16 +84,19 @@ module _ {whole : Settled} {files ledger result : List ℕ} {settled at filled :
   -- no byte is left
   pub going-end : length files ≤ at → FilesSettled whole ledger result (record { ground = 0; files = settled })
   unfolding turn nextBlock
-  going-end past = stopped 0 (next-turn (Next.stop End.ended) (ap (nextBlock mostLength) (drop-of-length-le files {i = at} past)))
+  going-end past =
+      stopped 0 (next-turn (Next.stop End.ended) (ap (nextBlock mostLength) (drop-of-length-le files {i = at} past)))
 
   -- a length runs past the buffer
-  pub going-cut : (p : PlaceValue) → FileDue files at p → p .whole ≡ false → FilesSettled whole ledger result (record { ground = lengthRunsPast; files = settled })
+  pub going-cut : (p : PlaceValue) → FileDue files at p → p .whole ≡ false
+      → FilesSettled whole ledger result (record { ground = lengthRunsPast; files = settled })
   unfolding turn
   going-cut p due cut =
       stopped lengthRunsPast (next-turn (Next.stop End.cut) (due .next ∙ ap (λ t. cond t (fileAt files p) (Next.stop End.cut)) cut))
 
   -- a file whose turn comes
-  module _ (p : PlaceValue) (due : FileDue files at p) (found : p .whole ≡ true) (ledger-after result-after : List ℕ) (t : TurnValue)
+  module _ (p : PlaceValue) (due : FileDue files at p) (found : p .whole ≡ true) (ledger-after result-after : List ℕ)
+      (t : TurnValue)
       (taken : TurnTaken ledger (take (p .to - p .from) (drop (p .from) files)) result filled ledger-after result-after t) where
     -- the file
     abbrev file : List ℕ
@@ -99,7 +107,8 @@ module _ {whole : Settled} {files ledger result : List ℕ} {settled at filled :
     by-turn = next-turn (fileAt files p) (due .next ∙ ap (λ t. cond t (fileAt files p) (Next.stop End.cut)) found)
 
     -- that is refused ends the event
-    pub going-refused : (t .ground ≡ 0 → ⊥) → FilesSettled whole ledger-after result-after (record { ground = t .ground; files = settled })
+    pub going-refused : (t .ground ≡ 0 → ⊥)
+        → FilesSettled whole ledger-after result-after (record { ground = t .ground; files = settled })
     unfolding turn fileAt prefixed noFile
     going-refused some =
         let a = settling ledger file (drop filled result) in
@@ -137,7 +146,8 @@ module _ {whole : Settled} {files ledger result : List ℕ} {settled at filled :
         let budget : length files - settled ≡ length files + 1 - (settled + 1) = omega arith in
         let later-is : later ≡ settledFiles (length files + 1 - (settled + 1)) ledger-after (drop (p .to) files) (drop (t .filled) result-after) =
         ap (λ b. settledFiles b (a .ledger) (drop (p .to) files) (drop n (a .result))) budget
-        ∙ ap₂ (λ l r. settledFiles (length files + 1 - (settled + 1)) l (drop (p .to) files) r) (sym (taken .leaves)) back-is in
+        ∙ ap₂ (λ l r. settledFiles (length files + 1 - (settled + 1)) l (drop (p .to) files) r)
+        (sym (taken .leaves)) back-is in
         record {
           at-within = due .within;
           filled-within = taken .within;

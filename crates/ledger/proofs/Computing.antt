@@ -1,4 +1,5 @@
--- Every definition of this crate's specs, and of those below, opened at once: a proof that computes says `unfolding computing`.
+-- Every definition of this crate's specs, and of those below, opened at once:
+-- a proof that computes says `unfolding computing`.
 use Prim.Native.Nat.{ℕ}
 use Rattle.assessment.proofs.Computing.{computing as assessment-computing}
 use Rattle.ledger.specs.Ledger.{

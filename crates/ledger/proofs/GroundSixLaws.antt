@@ -1,4 +1,5 @@
--- Ground 6 in the order in which the code tests it: the layout, what stands before the accounts, and one pass over the accounts.
+-- Ground 6 in the order in which the code tests it: the layout, what stands before the accounts,
+-- and one pass over the accounts.
 use Prim.Native.Nat.{ℕ, _+_, _*_, _≤_, _<_}
 use mathlib.Core.Path.{_≡_, refl, sym, ap, _∙_}
 use mathlib.Core.List.{List, _∷_, map}
@@ -100,7 +101,8 @@ module _ (t : Terms) (a : Account) (most : ℕ) (e : most ≡ limit t (a .larges
   unfolding accountOutside
   credited-decides low h = rw (← e, low, h)
 
--- whether ground 6 refuses accounts whose ids must rise from above a number on, with so much charged and credited before them
+-- whether ground 6 refuses accounts whose ids must rise from above a number on,
+-- with so much charged and credited before them
 abbrev pub refusedFrom : Terms → ℕ → ℕ → ℕ → List Account → Bool
 refusedFrom t last charged credited left =
     not (risesAbove last (map (λ a. a .id) left)) || any (accountOutside t) left

@@ -1,4 +1,5 @@
--- Wrong programs that could pass for opening, and for each a call on which it and the definition differ, by computing both.
+-- Wrong programs that could pass for opening, and for each a call on which it and the definition differ,
+-- by computing both.
 use Prim.Native.Nat.{ℕ}
 use mathlib.Core.Path.{_≡_, ap}
 use mathlib.Core.List.{List, [], _∷_}

@@ -223,7 +223,8 @@ said b s says =
       number = length-accounts b ∙ sym count;
     }
 
--- a value read from a ledger that ground 6 does not refuse keeps the bounds of all its words, and the ledger those of its ids and accounts
+-- a value read from a ledger that ground 6 does not refuse keeps the bounds of all its words,
+-- and the ledger those of its ids and accounts
 pub ledger-read : (b : List ℕ) (s : StandingValue) → notALedger b ≡ false → standingIn s ≡ standingOf b → LedgerRead b s
 unfolding notALedger
 ledger-read b s e says =

@@ -106,7 +106,8 @@ comparisons-le id [] = omega arith
 comparisons-le id (x ∷ xs) = by (eqb x id) (comparisons-le id xs)
   where
     by : (t : Bool) → comparisons id xs + length (drop (suc (before id xs)) xs) ≤ length xs
-        → suc (cond t 0 (comparisons id xs)) + length (drop (suc (cond t 0 (suc (before id xs)))) (x ∷ xs)) ≤ suc (length xs)
+        → suc (cond t 0 (comparisons id xs)) + length (drop (suc (cond t 0 (suc (before id xs)))) (x ∷ xs))
+        ≤ suc (length xs)
     by true below = omega arith
     by false below = omega arith
 
@@ -121,9 +122,11 @@ pub budget-suffices : BudgetSuffices
 unfolding BudgetSuffices
 budget-suffices rows accounts = omega (arith, pass-le rows accounts)
 
--- a pass over all ids beside xs: the comparisons left of the budget, where some of the ids are left, and the accounts from j on
+-- a pass over all ids beside xs: the comparisons left of the budget, where some of the ids are left,
+-- and the accounts from j on
 unfoldable pub BudgetAt : (all xs left : List ℕ) (j budget : ℕ) → Type 0
-BudgetAt all xs left j budget = budget + passComparisons all xs ≡ length all + length xs + passComparisons left (drop j xs)
+BudgetAt all xs left j budget =
+    budget + passComparisons all xs ≡ length all + length xs + passComparisons left (drop j xs)
 
 -- a pass begins with as many as there are ids and accounts together
 pub budget-starts : (all xs : List ℕ) (budget : ℕ) → budget ≡ length all + length xs → BudgetAt all xs all 0 budget
@@ -137,7 +140,8 @@ unfolding BudgetAt passComparisons BudgetSuffices
 budget-enough all xs id left j budget at = omega (arith, at, budget-suffices all xs)
 
 -- and after it the rest of the budget is left for the others, from behind the account found on
-pub budget-turn : (all xs : List ℕ) (id : ℕ) (left : List ℕ) (j budget k spent : ℕ) → BudgetAt all xs (id ∷ left) j budget
+pub budget-turn : (all xs : List ℕ) (id : ℕ) (left : List ℕ) (j budget k spent : ℕ)
+    → BudgetAt all xs (id ∷ left) j budget
     → k ≡ j + before id (drop j xs) → spent ≡ budget - comparisons id (drop j xs) → BudgetAt all xs left (k + 1) spent
 unfolding BudgetAt passComparisons
 budget-turn all xs id left j budget k spent at place is =
@@ -241,14 +245,16 @@ unknown-from last (id ∷ ids) xs up =
     by true e step = step
     by false e step = rw (sym (found-is id xs) ∙ not-among last id xs up (ltb-false last id e))
 
--- of ids to be found in rising ones: they do not rise, or one is not among them, exactly where a walk does not find them all
+-- of ids to be found in rising ones: they do not rise, or one is not among them,
+-- exactly where a walk does not find them all
 pub unknown-is : (ids xs : List ℕ) → rises xs ≡ true
     → (not (rises ids) || any (λ id. not (any (λ x. eqb x id) xs)) ids) ≡ not (findsAll ids xs)
 unfolding any findsAll rises
 unknown-is [] xs up = refl
 unknown-is (id ∷ ids) xs up = unknown-step id ids xs up (unknown-from id ids (drop (suc (before id xs)) xs))
 
--- a walk from place j on finds an id and those after it just where the id stands before the end, and those after it are found from the next place on
+-- a walk from place j on finds an id and those after it just where the id stands before the end,
+-- and those after it are found from the next place on
 pub finds-turn : (id : ℕ) (ids xs : List ℕ) (j : ℕ) → let k = j + before id (drop j xs) in
     findsAll (id ∷ ids) (drop j xs) ≡ (ltb k (length xs) && findsAll ids (drop (k + 1) xs))
 unfolding findsAll
@@ -267,7 +273,8 @@ finds-turn id ids xs j =
         le-ltb (before id (drop j xs)) (length (drop j xs))
         (omega (arith, ltb-false (j + before id (drop j xs)) (length xs) e, length-drop j xs))
 
--- what is known where a walk from place j on finds an id and those after it: the id stands at its place, and the others are found from the next on
+-- what is known where a walk from place j on finds an id and those after it:
+-- the id stands at its place, and the others are found from the next on
 pub record FoundFrom (j id : ℕ) (ids xs : List ℕ) : Type 0 where
   pub within : j + before id (drop j xs) < length xs
   pub there : getD xs (j + before id (drop j xs)) 0 ≡ id

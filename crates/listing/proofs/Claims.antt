@@ -10,4 +10,5 @@ use Rattle.listing.specs.Claims.{StepsPrintTheListing}
 -- the heading and the steps are what npalist prints
 pub steps-print-the-listing : StepsPrintTheListing
 unfolding StepsPrintTheListing npalist listed ReadingIsEnough
-steps-print-the-listing budget stream h = ap (λ o. heading ++ bytesOfLines (o .printed)) (reading-is-enough _ _ listingSteps budget 0 ledgerBuffer stream h)
+steps-print-the-listing budget stream h =
+    ap (λ o. heading ++ bytesOfLines (o .printed)) (reading-is-enough _ _ listingSteps budget 0 ledgerBuffer stream h)

@@ -5,7 +5,23 @@ use Rattle.stream.specs.Stream.{nextBlock, after}
 use Rattle.stream.specs.Steps.{step, joined, stepsOver}
 use Rattle.settling.proofs.Computing.{computing as settling-computing}
 use Rattle.listing.specs.Lines.{text, digits, decimal, line, heading, bytesOfLine, bytesOfLines}
-use Rattle.listing.specs.Npalist.{rowLine, rowLines, poolLine, intervalLines, ledgerBuffer, resultBuffer, openingListed, intervalListed, blockListed, mostBytes, overLongGround, endLines, listingSteps, listed, npalist}
+use Rattle.listing.specs.Npalist.{
+  rowLine,
+  rowLines,
+  poolLine,
+  intervalLines,
+  ledgerBuffer,
+  resultBuffer,
+  openingListed,
+  intervalListed,
+  blockListed,
+  mostBytes,
+  overLongGround,
+  endLines,
+  listingSteps,
+  listed,
+  npalist,
+}
 
 -- a proof that computes says `unfolding computing`
 unfoldable pub computing : ℕ

@@ -28,7 +28,8 @@ same-digits zero n v h k = one-digit zero v (omega arith) ∙ sym (one-digit n v
 same-digits (suc m) zero v h k = one-digit (suc m) v (omega arith) ∙ sym (one-digit zero v (omega arith))
 same-digits (suc m) (suc n) v h k = by (ltb v 10) refl (same-digits m n (v / 10) (omega arith) (omega arith))
   where
-    by : (t : Bool) → ltb v 10 ≡ t → digits (suc m) (v / 10) ≡ digits (suc n) (v / 10) → digits (suc (suc m)) v ≡ digits (suc (suc n)) v
+    by : (t : Bool) → ltb v 10 ≡ t → digits (suc m) (v / 10) ≡ digits (suc n) (v / 10)
+        → digits (suc (suc m)) v ≡ digits (suc (suc n)) v
     by true e tenth = one-digit (suc m) v (ltb-true v 10 e) ∙ sym (one-digit (suc n) v (ltb-true v 10 e))
     by false e tenth =
         more-digits (suc m) v (ltb-false v 10 e)
@@ -42,7 +43,8 @@ digits-most (suc n) v = by (ltb v 10) refl (digits-most n (v / 10))
   where
     by : (t : Bool) → ltb v 10 ≡ t → length (digits n (v / 10)) ≤ n → length (digits (suc n) v) ≤ suc n
     by true e tenth = rw (one-digit n v (ltb-true v 10 e)) (omega arith)
-    by false e tenth = rw (more-digits n v (ltb-false v 10 e)) (omega (arith, length-append (digits n (v / 10)) ((48 + v % 10) ∷ [])))
+    by false e tenth =
+        rw (more-digits n v (ltb-false v 10 e)) (omega (arith, length-append (digits n (v / 10)) ((48 + v % 10) ∷ [])))
 
 -- a number below ten in decimal is one digit
 pub decimal-one : (v : ℕ) → v < 10 → decimal v ≡ (48 + v) ∷ []
@@ -52,7 +54,8 @@ decimal-one v h = one-digit 19 v h
 -- the digits of a 64-bit word from 10 on are those of its tenth and then its last digit
 pub decimal-more : (v : ℕ) → v < 2 ^ 64 → 10 ≤ v → decimal v ≡ decimal (v / 10) ++ (48 + v % 10) ∷ []
 unfolding decimal
-decimal-more v fits h = more-digits 19 v h ∙ ap (λ ds. ds ++ (48 + v % 10) ∷ []) (same-digits 18 19 (v / 10) (omega arith) (omega arith))
+decimal-more v fits h =
+    more-digits 19 v h ∙ ap (λ ds. ds ++ (48 + v % 10) ∷ []) (same-digits 18 19 (v / 10) (omega arith) (omega arith))
 
 -- a number in decimal takes at most 20 bytes
 pub decimal-most : (v : ℕ) → length (decimal v) ≤ 20
@@ -64,7 +67,8 @@ pub decimal-longer : (v : ℕ) → v < 2 ^ 64 → 10 ≤ v → length (decimal v
 decimal-longer v fits h = ap length (decimal-more v fits h) ∙ length-append (decimal (v / 10)) ((48 + v % 10) ∷ [])
 
 -- one turn of writing a number from its last digit on: what is left to write are the digits of its tenth
-pub digit-turn : (at i v d : ℕ) (b goal : List ℕ) → placedAt at (decimal v) b ≡ goal → i ≡ at + length (decimal v) → v < 2 ^ 64 → 10 ≤ v
+pub digit-turn : (at i v d : ℕ) (b goal : List ℕ) → placedAt at (decimal v) b ≡ goal → i ≡ at + length (decimal v)
+    → v < 2 ^ 64 → 10 ≤ v
     → at + length (decimal v) ≤ length b → d ≡ 48 + v % 10 → placedAt at (decimal (v / 10)) (set b (i - 1) d) ≡ goal
 digit-turn at i v d b goal left e fits h room q =
     let longer = decimal-longer v fits h in
@@ -74,6 +78,8 @@ digit-turn at i v d b goal left e fits h room q =
     ∙ left
 
 -- the first digit, with nothing in front of it
-pub digit-first : (at v d : ℕ) (b goal : List ℕ) → placedAt at (decimal v) b ≡ goal → v < 10 → at < length b → d ≡ 48 + v → set b at d ≡ goal
+pub digit-first : (at v d : ℕ) (b goal : List ℕ) → placedAt at (decimal v) b ≡ goal → v < 10 → at < length b
+    → d ≡ 48 + v → set b at d ≡ goal
 digit-first at v d b goal left h room q =
-    place-byte at d b room ∙ ap (λ x. placedAt at (x ∷ []) b) q ∙ ap (λ ds. placedAt at ds b) (sym (decimal-one v h)) ∙ left
+    place-byte at d b room ∙ ap (λ x. placedAt at (x ∷ []) b) q ∙ ap (λ ds. placedAt at ds b) (sym (decimal-one v h))
+    ∙ left

@@ -13,7 +13,16 @@ use Rattle.reading.specs.Block.{mostIds, termsOutside}
 use Rattle.reading.specs.Interval.{mostKilowatts, mostRows}
 use Rattle.reading.specs.Values.{termsIn}
 use Rattle.assessment.specs.Assessment.{Account, emptyAccount, accountOf}
-use Rattle.ledger.specs.Ledger.{ledgerHeaderBytes, standingOf, ledgerBytes, accountAt, accountCount, ledgerOf, idsIn, notALedger}
+use Rattle.ledger.specs.Ledger.{
+  ledgerHeaderBytes,
+  standingOf,
+  ledgerBytes,
+  accountAt,
+  accountCount,
+  ledgerOf,
+  idsIn,
+  notALedger,
+}
 use Rattle.ledger.specs.Values.{standingIn, LedgerRead, before}
 use Rattle.ledger.specs.Walk.{comparisons, passComparisons, BudgetSuffices}
 use Rattle.ledger.specs.declared.layout.Standing.{Standing as StandingValue}
@@ -63,7 +72,8 @@ module _ (b : List ℕ) (holds : notALedger b ≡ false) where
   pub largest-most : (id : ℕ) → accountOf id (ledgerOf b .accounts) .largest ≤ mostKilowatts
   unfolding emptyAccount
   largest-most id =
-      account-has (λ a. a .largest ≤ mostKilowatts) id (ledgerOf b .accounts) (omega arith) (λ a m. ledger-in b holds .accounts a m .largest)
+      account-has (λ a. a .largest ≤ mostKilowatts) id (ledgerOf b .accounts) (omega arith)
+      (λ a m. ledger-in b holds .accounts a m .largest)
 
   -- the value of what stands before the accounts
   module _ (s : StandingValue) (says : standingIn s ≡ standingOf b) where
@@ -110,7 +120,8 @@ module _ (b : List ℕ) (holds : notALedger b ≡ false) where
     )
 
   -- where a walk to an id has ended
-  module _ (id account accounts : ℕ) (at : account ≡ before id (idsIn (ledgerOf b))) (all : accounts ≡ accountCount b) where
+  module _ (id account accounts : ℕ) (at : account ≡ before id (idsIn (ledgerOf b)))
+      (all : accounts ≡ accountCount b) where
     -- the ledger has an account of the id just where the walk has not passed the last
     pub has-is : (ended : Bool) → ended ≡ leb accounts account → not ended ≡ any (λ i. eqb i id) (idsIn (ledgerOf b))
     has-is ended e =
@@ -138,7 +149,8 @@ module _ (b : List ℕ) (holds : notALedger b ≡ false) where
         → a ≡ accountOf id (ledgerOf b .accounts)
     unfolding idsIn
     found-there a here is =
-        let low : before id (idsIn (ledgerOf b)) < length (ledgerOf b .accounts) = omega (arith, one-there here, length-accounts b) in
+        let low : before id (idsIn (ledgerOf b)) < length (ledgerOf b .accounts) = omega
+        (arith, one-there here, length-accounts b) in
         is ∙ sym (account-is b account a (omega (arith, one-there here)))
         ∙ ap (λ k. getD (ledgerOf b .accounts) k a) at
         ∙ sym (account-found id (ledgerOf b .accounts) a low)

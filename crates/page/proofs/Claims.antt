@@ -29,8 +29,31 @@ use Rattle.year.specs.Year.{GivenRow, Call, newYear, afterCalls, sumOfPlant, ac
 use Rattle.year.proofs.Claims.{kept}
 use Rattle.year.proofs.Books.{found}
 use Rattle.listing.specs.Lines.{heading, RowLine, Line, bytesOfLines}
-use Rattle.listing.specs.Npalist.{rowLine, ledgerBuffer, openingListed, blockListed, mostBytes, listingSteps, nextListed, listed}
-use Rattle.page.specs.Page.{idWordBytes, onPage, chosen, figureOn, summed, yearOf, opened, onRoster, openingOf, linesAbove, pageYear, pageLines, npapage}
+use Rattle.listing.specs.Npalist.{
+  rowLine,
+  ledgerBuffer,
+  openingListed,
+  blockListed,
+  mostBytes,
+  listingSteps,
+  nextListed,
+  listed,
+}
+use Rattle.page.specs.Page.{
+  idWordBytes,
+  onPage,
+  chosen,
+  figureOn,
+  summed,
+  yearOf,
+  opened,
+  onRoster,
+  openingOf,
+  linesAbove,
+  pageYear,
+  pageLines,
+  npapage,
+}
 use Rattle.page.specs.Steps.{pageStart, idOutcome, pageSteps}
 use Rattle.page.specs.Claims.{readPage, StepsPrintThePage, rowsAmong, rowsOfPlant, PageHolds, PageOfAPlant}
 use Rattle.page.proofs.StepLaws.{opened-zero}
@@ -57,17 +80,20 @@ after-word budget input h =
 word-test : (input : List ℕ) → ltb (length (take idWordBytes input)) idWordBytes ≡ ltb (length input) idWordBytes
 word-test input =
     let n = length-take idWordBytes input in
-    same-test (length (take idWordBytes input)) idWordBytes (length input) idWordBytes (λ h. omega (arith, n)) (λ h. omega (arith, n))
+    same-test (length (take idWordBytes input)) idWordBytes (length input) idWordBytes (λ h. omega (arith, n))
+    (λ h. omega (arith, n))
 
 -- the steps print the page
 pub steps-print-the-page : StepsPrintThePage
 unfolding StepsPrintThePage readPage npapage idOutcome
 steps-print-the-page budget input h =
-    ap₂ (λ t id. heading ++ bytesOfLines (lines t id)) (word-test input) (word-whole idWordBytes input) ∙ by (ltb (length input) idWordBytes)
+    ap₂ (λ t id. heading ++ bytesOfLines (lines t id)) (word-test input) (word-whole idWordBytes input)
+    ∙ by (ltb (length input) idWordBytes)
   where
     lines : Bool → ℕ → List Line
     lines t id =
-        let first : Outcome Line ℕ = cond t (record { printed = Line.cut 0 ∷ []; state = 0; on = false }) (record { printed = []; state = id; on = true }) in
+        let first : Outcome Line ℕ = cond t (record { printed = Line.cut 0 ∷ []; state = 0; on = false })
+        (record { printed = []; state = id; on = true }) in
         first .printed ++ cond (first .on) (readingSteps (pageSteps (first .state)) budget 0 pageStart (drop idWordBytes input) .printed) []
 
     by : (t : Bool) → heading ++ bytesOfLines (lines t (number idWordBytes input))
@@ -86,7 +112,8 @@ take-bytes (suc n) (x ∷ b) bytes (suc i) = take-bytes n b (λ j. bytes (suc j)
 next-bytes : (most : ℕ) (s : List ℕ) → Bytes s → Bytes (bytesOfNext (nextBlock most s))
 unfolding nextBlock bytesOfNext
 next-bytes most s bytes =
-    by (eqb (length s) 0) (ltb (length s) lengthBytes) (ltb most (number lengthBytes s)) (ltb (length (drop lengthBytes s)) (number lengthBytes s))
+    by (eqb (length s) 0) (ltb (length s) lengthBytes) (ltb most (number lengthBytes s))
+    (ltb (length (drop lengthBytes s)) (number lengthBytes s))
   where
     by : (t u v w : Bool) → Bytes (bytesOfNext (cond t (Next.stop End.ended) (cond u (Next.stop End.cut) (cond v (Next.stop End.overLong) (cond w (Next.stop End.cut)
         (Next.block (take (number lengthBytes s) (drop lengthBytes s)) (drop (number lengthBytes s) (drop lengthBytes s))))))))
@@ -94,7 +121,8 @@ next-bytes most s bytes =
     by false true v w i = omega arith
     by false false true w i = omega arith
     by false false false true i = omega arith
-    by false false false false i = take-bytes (number lengthBytes s) (drop lengthBytes s) (drop-bytes lengthBytes s bytes) i
+    by false false false false i =
+        take-bytes (number lengthBytes s) (drop lengthBytes s) (drop-bytes lengthBytes s bytes) i
 
 -- the rows among lines and others
 among-append : (xs ys : List Line) → rowsAmong (xs ++ ys) ≡ rowsAmong xs ++ rowsAmong ys
@@ -113,7 +141,8 @@ among-chosen id [] = refl
 among-chosen id (Line.row r ∷ ls) = by (eqb (r .id) id) (among-chosen id ls)
   where
     by : (t : Bool) → rowsAmong (chosen id ls) ≡ rowsOfPlant id (rowsAmong ls)
-        → rowsAmong (cond t (Line.row r ∷ chosen id ls) (chosen id ls)) ≡ cond t (r ∷ rowsOfPlant id (rowsAmong ls)) (rowsOfPlant id (rowsAmong ls))
+        → rowsAmong (cond t (Line.row r ∷ chosen id ls) (chosen id ls))
+        ≡ cond t (r ∷ rowsOfPlant id (rowsAmong ls)) (rowsOfPlant id (rowsAmong ls))
     by true below = ap (λ rs. r ∷ rs) below
     by false below = below
 among-chosen id (Line.pool p ∷ ls) = among-chosen id ls
@@ -122,7 +151,8 @@ among-chosen id (Line.cut block ∷ ls) = among-chosen id ls
 among-chosen id (Line.year y ∷ ls) = among-chosen id ls
 
 -- a plant on the roster of a stream with an accepted opening
-module _ (id : ℕ) (stream : List ℕ) (bytes : Bytes stream) (accepted : opened stream ≡ true) (known : onRoster id (openingOf stream) ≡ true) where
+module _ (id : ℕ) (stream : List ℕ) (bytes : Bytes stream) (accepted : opened stream ≡ true)
+    (known : onRoster id (openingOf stream) ≡ true) where
   -- the page has the lines above and the year
   page-lines : pageLines id stream ≡ linesAbove id stream ++ (Line.year (pageYear id stream) ∷ [])
   unfolding pageLines
@@ -143,13 +173,15 @@ module _ (id : ℕ) (stream : List ℕ) (bytes : Bytes stream) (accepted : opene
   listed-is = ap (λ b. stepsOver listingSteps b 0 ledgerBuffer stream) (add-one (length stream))
 
   -- a sum that the plant's account holds is the sum over the lines above
-  account-sum : (f : RowLine → ℕ) (g : GivenRow → ℕ) → ((interval : ℕ) (r : Row) (b : List ℕ) → figureOn f (rowLine interval (r .id) b) ≡ g (givenAt r b))
+  account-sum : (f : RowLine → ℕ) (g : GivenRow → ℕ)
+      → ((interval : ℕ) (r : Row) (b : List ℕ) → figureOn f (rowLine interval (r .id) b) ≡ g (givenAt r b))
       → (held : Account → ℕ) → ((gs : List GivenRow) → held (accountByRows gs id) ≡ sumOfPlant id g gs)
       → held (accountOf id (ledgerOf (listed stream .state) .accounts)) ≡ summed f (linesAbove id stream)
   unfolding onRoster opened openingOf linesAbove mostBytes
   account-sum f g same held is =
       let block = openingOf stream in
-      let (calls, zero-ground, ledger, sums) = given-first f g same id (length stream) (nextBlock (mostBytes 0) stream) accepted in
+      let (calls, zero-ground, ledger, sums) = given-first f g same id (length stream)
+      (nextBlock (mostBytes 0) stream) accepted in
       let y = afterCalls (newYear (opening block ledgerBuffer .ledger)) calls in
       let accounts = kept block ledgerBuffer (next-bytes (mostBytes 0) stream bytes) zero-ground calls .sums .accounts in
       let own = found (y .given) id (blockOf block .ids) (found-member id (blockOf block .ids) known) in

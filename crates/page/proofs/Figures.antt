@@ -6,7 +6,20 @@ use Rattle.ledger.specs.Figures.{blockWith, listingBlock}
 use Rattle.settling.specs.Figures.{fileWith, row11, row12, row13, row14, listingPoints, listingFile}
 use Rattle.listing.specs.Figures.{counted, headingText, listingText, listingStream}
 use Rattle.listing.proofs.Computing.{computing}
-use Rattle.page.specs.Page.{onPage, chosen, figureOn, summed, yearOf, opened, onRoster, openingOf, linesAbove, pageYear, pageLines, npapage}
+use Rattle.page.specs.Page.{
+  onPage,
+  chosen,
+  figureOn,
+  summed,
+  yearOf,
+  opened,
+  onRoster,
+  openingOf,
+  linesAbove,
+  pageYear,
+  pageLines,
+  npapage,
+}
 use Rattle.page.specs.Figures.{notConsidered, PageFigures}
 
 -- every definition of a page, opened at once

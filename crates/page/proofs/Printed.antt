@@ -17,8 +17,31 @@ use Rattle.stream.specs.Steps.{Outcome, Steps, step, joined, stepsOver}
 use Rattle.stream.specs.Claims.{BudgetIsEnough}
 use Rattle.stream.proofs.Claims.{budget-is-enough}
 use Rattle.listing.specs.Lines.{RowLine, Line}
-use Rattle.listing.specs.Npalist.{ledgerBuffer, openingListed, intervalListed, blockListed, mostBytes, endLines, listingSteps, nextListed, listed}
-use Rattle.page.specs.Page.{outsideRoster, onPage, chosen, figureOn, summed, yearOf, opened, onRoster, openingOf, linesAbove, pageYear, pageLines}
+use Rattle.listing.specs.Npalist.{
+  ledgerBuffer,
+  openingListed,
+  intervalListed,
+  blockListed,
+  mostBytes,
+  endLines,
+  listingSteps,
+  nextListed,
+  listed,
+}
+use Rattle.page.specs.Page.{
+  outsideRoster,
+  onPage,
+  chosen,
+  figureOn,
+  summed,
+  yearOf,
+  opened,
+  onRoster,
+  openingOf,
+  linesAbove,
+  pageYear,
+  pageLines,
+}
 use Rattle.page.specs.Steps.{
   PageState,
   noLines,
@@ -51,7 +74,8 @@ module _ (id : ℕ) where
 
   -- the sums over the lines of one outcome and of another
   sums-joined : (f : RowLine → ℕ) (before : ℕ) (first later : List Line)
-      → before + summed f (chosen id first) + summed f (chosen id later) ≡ before + summed f (chosen id (first ++ later))
+      → before + summed f (chosen id first) + summed f (chosen id later)
+      ≡ before + summed f (chosen id (first ++ later))
   sums-joined f before first later =
       let both = ap (summed f) (chosen-append id first later) ∙ summed-append f (chosen id first) (chosen id later) in
       omega (arith, both)
@@ -72,7 +96,8 @@ module _ (id : ℕ) where
   unfolding joined
   follows-joined s first later =
       sym (append-assoc (chosen id (first .printed)) (chosen id (later .printed)) _)
-      ∙ ap₂ (λ ls s. ls ++ yearLines id s) (sym (chosen-append id (first .printed) (later .printed))) (state-joined s first later)
+      ∙ ap₂ (λ ls s. ls ++ yearLines id s) (sym (chosen-append id (first .printed) (later .printed)))
+      (state-joined s first later)
 
   -- the lines of an end stand on every page
   pub end-chosen : (number : ℕ) (e : End) → chosen id (endLines number e) ≡ endLines number e
@@ -97,11 +122,14 @@ module _ (id : ℕ) where
   end-none f number End.overLong = refl
 
   -- so an end leaves the state
-  end-state : (number : ℕ) (s : PageState) (e : End) → s ≡ pageOutcome id s (record { printed = endLines number e; state = s .ledger; on = false }) .state
+  end-state : (number : ℕ) (s : PageState) (e : End)
+      → s ≡ pageOutcome id s (record { printed = endLines number e; state = s .ledger; on = false }) .state
   unfolding pageOutcome
   end-state number s e =
-      let none : (f : RowLine → ℕ) → summed f (chosen id (endLines number e)) ≡ 0 = λ f. ap (summed f) (end-chosen number e) ∙ end-none f number e in
-      let same : (f : RowLine → ℕ) (n : ℕ) → n ≡ n + summed f (chosen id (endLines number e)) = λ f n. omega (arith, none f) in
+      let none : (f : RowLine → ℕ) → summed f (chosen id (endLines number e)) ≡ 0 = λ f. ap (summed f)
+      (end-chosen number e) ∙ end-none f number e in
+      let same : (f : RowLine → ℕ) (n : ℕ) → n ≡ n + summed f (chosen id (endLines number e)) = λ f n. omega
+      (arith, none f) in
       λ i. record { ledger = s .ledger; shortfall = same (λ r. r .shortfall) (s .shortfall) i; bonus = same (λ r. r .bonus) (s .bonus) i }
 
   -- a block after the opening, for the listing
@@ -119,22 +147,28 @@ module _ (id : ℕ) where
       ≡ (let o = pageOutcome id s (intervalListed number (s .ledger) bytes) in joined o (stepsOver (pageSteps id) budget (number + 1) (o .state) rest))
   unfolding overNext step pageSteps after pageOutcome intervalListed
   paged-block budget number s bytes rest later =
-      ap (λ o. cond (o .on) (joined o (stepsOver (pageSteps id) budget (number + 1) (o .state) rest)) o) (block-later id number s bytes later)
+      ap (λ o. cond (o .on) (joined o (stepsOver (pageSteps id) budget (number + 1) (o .state) rest)) o)
+      (block-later id number s bytes later)
 
   -- what is known of the steps from a block after the opening on
   abbrev Later : ℕ → Type 0
-  Later budget = (number : ℕ) (s : PageState) (stream : List ℕ) → (number ≡ 0 → ⊥) → stepsOver listingSteps budget number (s .ledger) stream .on ≡ false
-      → stepsOver (pageSteps id) budget number s stream .printed ≡ follows s (stepsOver listingSteps budget number (s .ledger) stream)
+  Later budget = (number : ℕ) (s : PageState) (stream : List ℕ) → (number ≡ 0 → ⊥)
+      → stepsOver listingSteps budget number (s .ledger) stream .on ≡ false
+      → stepsOver (pageSteps id) budget number s stream .printed
+      ≡ follows s (stepsOver listingSteps budget number (s .ledger) stream)
 
   -- where the stream stops there
   later-stop : (budget number : ℕ) (s : PageState) (e : End) → (number ≡ 0 → ⊥)
-      → overNext (pageSteps id) budget number s (Next.stop e) .printed ≡ follows s (overNext listingSteps budget number (s .ledger) (Next.stop e))
+      → overNext (pageSteps id) budget number s (Next.stop e) .printed
+      ≡ follows s (overNext listingSteps budget number (s .ledger) (Next.stop e))
   unfolding overNext step pageSteps listingSteps
   later-stop budget number s e some =
-      sym (end-later id number s e some) ∙ ap₂ (λ ls s. ls ++ yearLines id s) (sym (end-chosen number e)) (end-state number s e)
+      sym (end-later id number s e some)
+      ∙ ap₂ (λ ls s. ls ++ yearLines id s) (sym (end-chosen number e)) (end-state number s e)
 
   -- one outcome of the page, and those after it
-  goes-on : (budget number : ℕ) (s : PageState) (o : Outcome Line (List ℕ)) (rest : List ℕ) → Later budget → (number + 1 ≡ 0 → ⊥)
+  goes-on : (budget number : ℕ) (s : PageState) (o : Outcome Line (List ℕ)) (rest : List ℕ) → Later budget
+      → (number + 1 ≡ 0 → ⊥)
       → stepsOver listingSteps budget (number + 1) (o .state) rest .on ≡ false
       → joined (pageOutcome id s o) (stepsOver (pageSteps id) budget (number + 1) (pageOutcome id s o .state) rest) .printed
       ≡ follows s (joined o (stepsOver listingSteps budget (number + 1) (o .state) rest))
@@ -151,12 +185,14 @@ module _ (id : ℕ) where
   -- from what comes next on
   later-next : (budget : ℕ) → Later budget → (number : ℕ) (s : PageState) (n : Next) → (number ≡ 0 → ⊥)
       → overNext listingSteps budget number (s .ledger) n .on ≡ false
-      → overNext (pageSteps id) budget number s n .printed ≡ follows s (overNext listingSteps budget number (s .ledger) n)
+      → overNext (pageSteps id) budget number s n .printed
+      ≡ follows s (overNext listingSteps budget number (s .ledger) n)
   later-next budget below number s (Next.stop e) some off = later-stop budget number s e some
   later-next budget below number s (Next.block bytes rest) some off =
       let o = intervalListed number (s .ledger) bytes in
       let first = listed-block budget number (s .ledger) bytes rest some in
-      let rest-off = off-later o (stepsOver listingSteps budget (number + 1) (o .state) rest) (sym (ap (λ o. o .on) first) ∙ off) in
+      let rest-off = off-later o (stepsOver listingSteps budget (number + 1) (o .state) rest)
+      (sym (ap (λ o. o .on) first) ∙ off) in
       ap (λ o. o .printed) (paged-block budget number s bytes rest some)
       ∙ goes-on budget number s o rest below (λ z. omega arith) rest-off
       ∙ ap (follows s) (sym first)
@@ -165,11 +201,14 @@ module _ (id : ℕ) where
   later : (budget : ℕ) → Later budget
   unfolding stepsOver overNext pageSteps listingSteps
   later zero number s stream some off = never (sym off)
-  later (suc budget) number s stream some off = later-next budget (later budget) number s (nextBlock (mostBytes number) stream) some off
+  later (suc budget) number s stream some off =
+      later-next budget (later budget) number s (nextBlock (mostBytes number) stream) some off
 
-  -- the page of a listing that began with an outcome o, and left all, by whether the opening was accepted and the id is on its roster
+  -- the page of a listing that began with an outcome o, and left all,
+  -- by whether the opening was accepted and the id is on its roster
   unfoldable pageBy : Bool → Bool → Outcome Line (List ℕ) → List Line
-  pageBy on known all = cond on (cond known (follows pageStart all) (Line.refused 0 outsideRoster ∷ [])) (chosen id (all .printed))
+  pageBy on known all =
+      cond on (cond known (follows pageStart all) (Line.refused 0 outsideRoster ∷ [])) (chosen id (all .printed))
 
   -- a whole block that comes first
   module _ (budget : ℕ) (below : Later budget) (bytes rest : List ℕ) where
@@ -182,7 +221,8 @@ module _ (id : ℕ) where
     whole = joined o (stepsOver listingSteps budget 1 (o .state) rest)
 
     -- by whether it is accepted
-    listed-first : (on : Bool) → o .on ≡ on → overNext listingSteps budget 0 ledgerBuffer (Next.block bytes rest) ≡ cond on whole o
+    listed-first : (on : Bool) → o .on ≡ on
+        → overNext listingSteps budget 0 ledgerBuffer (Next.block bytes rest) ≡ cond on whole o
     unfolding overNext step listingSteps blockListed after whole
     listed-first on e = ap (λ t. cond t (joined o (stepsOver listingSteps budget 1 (o .state) rest)) o) e
 
@@ -195,23 +235,27 @@ module _ (id : ℕ) where
         → overNext (pageSteps id) budget 0 pageStart (Next.block bytes rest)
         ≡ onwards (cond (on && not known) (outsideOutcome pageStart o) (pageOutcome id pageStart o))
     unfolding overNext step pageSteps pageBlock pageOpening after pageStart noLines
-    paged-first on known e f = ap₂ (λ t u. onwards (cond (t && not u) (outsideOutcome pageStart o) (pageOutcome id pageStart o))) e f
+    paged-first on known e f =
+        ap₂ (λ t u. onwards (cond (t && not u) (outsideOutcome pageStart o) (pageOutcome id pageStart o))) e f
 
     -- it prints the page
     first-block : (on known : Bool) → o .on ≡ on → onRoster id bytes ≡ known → cond on whole o .on ≡ false
-        → onwards (cond (on && not known) (outsideOutcome pageStart o) (pageOutcome id pageStart o)) .printed ≡ pageBy on known (cond on whole o)
+        → onwards (cond (on && not known) (outsideOutcome pageStart o) (pageOutcome id pageStart o)) .printed
+        ≡ pageBy on known (cond on whole o)
     unfolding pageBy outsideOutcome pageOutcome whole
     first-block true false e f off = refl
     first-block true true e f off =
         ap (λ t. cond t (joined (pageOutcome id pageStart o) (stepsOver (pageSteps id) budget 1 (pageOutcome id pageStart o .state) rest)) (pageOutcome id pageStart o) .printed) e
-        ∙ goes-on budget 0 pageStart o rest below (λ z. omega arith) (off-later o (stepsOver listingSteps budget 1 (o .state) rest) off)
+        ∙ goes-on budget 0 pageStart o rest below (λ z. omega arith)
+        (off-later o (stepsOver listingSteps budget 1 (o .state) rest) off)
     first-block false known e f off =
         ap (λ t. cond t (joined (pageOutcome id pageStart o) (stepsOver (pageSteps id) budget 1 (pageOutcome id pageStart o .state) rest)) (pageOutcome id pageStart o) .printed) e
 
   -- the first block, or an end in its place
   first-next : (budget : ℕ) → Later budget → (n : Next) → overNext listingSteps budget 0 ledgerBuffer n .on ≡ false
       → overNext (pageSteps id) budget 0 pageStart n .printed
-      ≡ pageBy (step listingSteps 0 ledgerBuffer n .on) (onRoster id (bytesOfNext n)) (overNext listingSteps budget 0 ledgerBuffer n)
+      ≡ pageBy (step listingSteps 0 ledgerBuffer n .on) (onRoster id (bytesOfNext n))
+      (overNext listingSteps budget 0 ledgerBuffer n)
   unfolding step bytesOfNext listingSteps blockListed
   first-next budget below (Next.stop e) off = unfold overNext step pageSteps pageEnd pageBy in sym (end-chosen 0 e)
   first-next budget below (Next.block bytes rest) off =
@@ -225,27 +269,32 @@ module _ (id : ℕ) where
   -- with a budget of some steps, the page's print what is made of the listing's
   with-budget : (budget : ℕ) (stream : List ℕ) → stepsOver listingSteps (suc budget) 0 ledgerBuffer stream .on ≡ false
       → stepsOver (pageSteps id) (suc budget) 0 pageStart stream .printed
-      ≡ pageBy (opened stream) (onRoster id (openingOf stream)) (stepsOver listingSteps (suc budget) 0 ledgerBuffer stream)
+      ≡ pageBy (opened stream) (onRoster id (openingOf stream))
+      (stepsOver listingSteps (suc budget) 0 ledgerBuffer stream)
   unfolding stepsOver overNext pageSteps listingSteps opened openingOf mostBytes
   with-budget budget stream off = first-next budget (later budget) (nextBlock (mostBytes 0) stream) off
 
   -- from no lines the sums are those of the lines
   follows-start : (all : Outcome Line (List ℕ)) → let above = chosen id (all .printed) in
-      follows pageStart all ≡ above ++ (Line.year (yearOf id (summed (λ r. r .shortfall) above) (summed (λ r. r .bonus) above) (all .state)) ∷ [])
+      follows pageStart all ≡ above
+      ++ (Line.year (yearOf id (summed (λ r. r .shortfall) above) (summed (λ r. r .bonus) above) (all .state)) ∷ [])
   unfolding pageOutcome pageStart noLines yearLines
   follows-start all =
       let above = chosen id (all .printed) in
-      ap₂ (λ m n. above ++ (Line.year (yearOf id m n (all .state)) ∷ [])) (zero-add (summed (λ r. r .shortfall) above)) (zero-add (summed (λ r. r .bonus) above))
+      ap₂ (λ m n. above ++ (Line.year (yearOf id m n (all .state)) ∷ [])) (zero-add (summed (λ r. r .shortfall) above))
+      (zero-add (summed (λ r. r .bonus) above))
 
   -- what is made of the listing is the page
-  page-is : (stream : List ℕ) → pageBy (opened stream) (onRoster id (openingOf stream)) (listed stream) ≡ pageLines id stream
+  page-is : (stream : List ℕ)
+      → pageBy (opened stream) (onRoster id (openingOf stream)) (listed stream) ≡ pageLines id stream
   unfolding pageBy pageLines linesAbove pageYear
   page-is stream =
       ap (λ ls. cond (opened stream) (cond (onRoster id (openingOf stream)) ls (Line.refused 0 outsideRoster ∷ [])) (chosen id (listed stream .printed)))
       (follows-start (listed stream))
 
   -- the page's steps print the page
-  pub steps-print : (stream : List ℕ) → stepsOver (pageSteps id) (length stream + 1) 0 pageStart stream .printed ≡ pageLines id stream
+  pub steps-print : (stream : List ℕ)
+      → stepsOver (pageSteps id) (length stream + 1) 0 pageStart stream .printed ≡ pageLines id stream
   unfolding listed BudgetIsEnough
   steps-print stream =
       let one = add-one (length stream) in

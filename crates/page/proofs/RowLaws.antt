@@ -43,11 +43,13 @@ module _ (f : List ℕ) (id : ℕ) where
     pub place-here : {w : RowWords} → i < h .rows → w ≡ rowWordsAt f i → w .id ≡ id → placeFrom i ≡ i
     unfolding before rowOf rowWith
     place-here {w} row is own =
-        let none : before id (rowIds (rowsLeft f i)) ≡ 0 = ap (λ rs. before id (rowIds rs)) (next-row read i row is) ∙ rw (eq-eqb (w .id) id own) in
+        let none : before id (rowIds (rowsLeft f i)) ≡ 0 = ap (λ rs. before id (rowIds rs)) (next-row read i row is)
+        ∙ rw (eq-eqb (w .id) id own) in
         omega (arith, none)
 
     -- after another the next row is looked at
-    pub place-next : {w : RowWords} → i < h .rows → w ≡ rowWordsAt f i → (w .id ≡ id → ⊥) → placeFrom i ≡ placeFrom (i + 1)
+    pub place-next : {w : RowWords} → i < h .rows → w ≡ rowWordsAt f i → (w .id ≡ id → ⊥)
+        → placeFrom i ≡ placeFrom (i + 1)
     unfolding before rowOf rowWith
     place-next {w} row is other =
         let more : before id (rowIds (rowsLeft f i)) ≡ suc (before id (rowIds (rowsLeft f (i + 1)))) =
@@ -77,13 +79,15 @@ none-chosen interval id (r ∷ rs) b none = by (eqb (r .id) id) none (none-chose
     by false none below = below none
 
 -- where the plant's id stands among no rows, they have no line on its page
-pub no-line : (interval id : ℕ) (rs : List Row) (b : List ℕ) → length rs ≤ before id (rowIds rs) → chosen id (rowLines interval rs b) ≡ []
+pub no-line : (interval id : ℕ) (rs : List Row) (b : List ℕ) → length rs ≤ before id (rowIds rs)
+    → chosen id (rowLines interval rs b) ≡ []
 no-line interval id rs b past =
     none-chosen interval id rs b
     (found-is id (rowIds rs) ∙ le-ltb (before id (rowIds rs)) (length (rowIds rs)) (omega (arith, length-map rs (λ r. r .id))))
 
 -- where ids rise, the line of the row that has the plant's id is its only one
-pub one-line : (interval id : ℕ) (rs : List Row) (b : List ℕ) → rises (rowIds rs) ≡ true → before id (rowIds rs) < length rs
+pub one-line : (interval id : ℕ) (rs : List Row) (b : List ℕ) → rises (rowIds rs) ≡ true
+    → before id (rowIds rs) < length rs
     → chosen id (rowLines interval rs b) ≡ rowLine interval id (drop (resultRowBytes * before id (rowIds rs)) b) ∷ []
 unfolding chosen onPage rowLines rowLine before rises
 one-line interval id [] b up low = absurd (omega arith)
@@ -98,7 +102,8 @@ one-line interval id (r ∷ rs) b up low =
         ≡ rowLine interval id (drop (resultRowBytes * cond t 0 (suc (before id (rowIds rs)))) b) ∷ []
     by true e low below =
         let own = eqb-true (r .id) id e in
-        let others = none-chosen interval id rs (drop resultRowBytes b) (not-among (r .id) id (rowIds rs) up (omega arith)) in
+        let others = none-chosen interval id rs (drop resultRowBytes b)
+        (not-among (r .id) id (rowIds rs) up (omega arith)) in
         ap₂ (λ i ls. rowLine interval i b ∷ ls) own others
     by false e low below =
         let place : resultRowBytes + resultRowBytes * before id (rowIds rs) ≡ resultRowBytes * suc (before id (rowIds rs)) = omega arith in

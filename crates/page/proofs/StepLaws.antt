@@ -31,7 +31,17 @@ use Rattle.listing.specs.Code.{inBytes, yearIn}
 use Rattle.listing.specs.declared.lines.YearFigures.{YearFigures}
 use Rattle.listing.proofs.LineLaws.{one-line, lines-append}
 use Rattle.page.specs.Page.{idWordBytes, outsideRoster, onPage, chosen, figureOn, summed, yearOf, onRoster}
-use Rattle.page.specs.Steps.{PageState, noLines, idOutcome, pageOutcome, outsideOutcome, pageOpening, pageBlock, yearLines, pageEnd}
+use Rattle.page.specs.Steps.{
+  PageState,
+  noLines,
+  idOutcome,
+  pageOutcome,
+  outsideOutcome,
+  pageOpening,
+  pageBlock,
+  yearLines,
+  pageEnd,
+}
 use Rattle.page.specs.declared.lines.Page.{Page as PageValue}
 
 -- what the code's figures of a year say, by the account found and the limit of its largest commitment
@@ -52,8 +62,10 @@ year-says b p a t most terms own is =
     }
 
 -- the step on an id word that is cut
-pub id-cut : (word before out : List ℕ) (end : ℕ) → length word < idWordBytes → out ≡ placedAt 0 (bytesOfLine (Line.cut 0)) before
-    → end ≡ 0 + length (bytesOfLine (Line.cut 0)) → end ≤ length out → StepTaken (inBytes (idOutcome word)) 0 before out (record { end = end; on = false })
+pub id-cut : (word before out : List ℕ) (end : ℕ) → length word < idWordBytes
+    → out ≡ placedAt 0 (bytesOfLine (Line.cut 0)) before
+    → end ≡ 0 + length (bytesOfLine (Line.cut 0)) → end ≤ length out
+    → StepTaken (inBytes (idOutcome word)) 0 before out (record { end = end; on = false })
 unfolding idOutcome inBytes
 id-cut word before out end short put ends fits =
     let cut = lt-ltb (length word) idWordBytes short in
@@ -78,7 +90,8 @@ chosen-append id [] ys = refl
 chosen-append id (x ∷ xs) ys = by (onPage id x) (chosen-append id xs ys)
   where
     by : (t : Bool) → chosen id (xs ++ ys) ≡ chosen id xs ++ chosen id ys
-        → cond t (x ∷ chosen id (xs ++ ys)) (chosen id (xs ++ ys)) ≡ cond t (x ∷ chosen id xs) (chosen id xs) ++ chosen id ys
+        → cond t (x ∷ chosen id (xs ++ ys)) (chosen id (xs ++ ys))
+        ≡ cond t (x ∷ chosen id xs) (chosen id xs) ++ chosen id ys
     by true below = ap (λ ls. x ∷ ls) below
     by false below = below
 
@@ -93,7 +106,8 @@ module _ (l block : List ℕ) where
   unfolding openingListed chosen onPage
   opening-chosen id = by (eqb (opening block l .ground) 0)
     where
-      by : (t : Bool) → chosen id (cond t [] (Line.refused 0 (opening block l .ground) ∷ [])) ≡ cond t [] (Line.refused 0 (opening block l .ground) ∷ [])
+      by : (t : Bool) → chosen id (cond t [] (Line.refused 0 (opening block l .ground) ∷ []))
+          ≡ cond t [] (Line.refused 0 (opening block l .ground) ∷ [])
       by true = refl
       by false = refl
 
@@ -107,7 +121,8 @@ module _ (l block : List ℕ) where
       by false = refl
 
   -- so the page has no sums after it
-  pub opening-state : (id : ℕ) → pageOutcome id (noLines l) o ≡ record { printed = o .printed; state = noLines (o .state); on = o .on }
+  pub opening-state : (id : ℕ)
+      → pageOutcome id (noLines l) o ≡ record { printed = o .printed; state = noLines (o .state); on = o .on }
   unfolding pageOutcome noLines
   opening-state id =
       let same = opening-chosen id in
@@ -121,7 +136,8 @@ module _ (l block : List ℕ) where
 
   -- the page goes on, or stops, as the listing does, where no id is looked for in vain
   opening-paged : (id : ℕ) (after before out : List ℕ) (t : Taken) → (o .on && not (onRoster id block)) ≡ false
-      → StepTaken (inBytes o) after before out t → StepTaken (inBytes (pageOpening id (noLines l) block)) (noLines after) before out t
+      → StepTaken (inBytes o) after before out t
+      → StepTaken (inBytes (pageOpening id (noLines l) block)) (noLines after) before out t
   unfolding pageOpening inBytes noLines
   opening-paged id after before out t known taken =
       step-as (inBytes (pageOpening id (noLines l) block)) (inBytes (record { printed = o .printed; state = noLines (o .state); on = o .on })) (noLines after) before out t
@@ -146,14 +162,19 @@ module _ (l block : List ℕ) where
     opened-silent = ap (λ t. cond t [] (Line.refused 0 (opening block l .ground) ∷ [])) on
 
     -- an id outside its roster ends the page with its refusal
-    outside-paged : (id : ℕ) (after before mid out : List ℕ) (t : Taken) (end : ℕ) → onRoster id block ≡ false → StepTaken (inBytes o) after before mid t
-        → out ≡ placedAt 0 (bytesOfLine (Line.refused 0 outsideRoster)) mid → end ≡ 0 + length (bytesOfLine (Line.refused 0 outsideRoster)) → end ≤ length out
-        → StepTaken (inBytes (pageOpening id (noLines l) block)) (noLines after) before out (record { end = end; on = false })
+    outside-paged : (id : ℕ) (after before mid out : List ℕ) (t : Taken) (end : ℕ) → onRoster id block ≡ false
+        → StepTaken (inBytes o) after before mid t
+        → out ≡ placedAt 0 (bytesOfLine (Line.refused 0 outsideRoster)) mid
+        → end ≡ 0 + length (bytesOfLine (Line.refused 0 outsideRoster)) → end ≤ length out
+        → StepTaken (inBytes (pageOpening id (noLines l) block)) (noLines after) before out
+        (record { end = end; on = false })
     unfolding pageOpening outsideOutcome inBytes noLines bytesOfLines
     outside-paged id after before mid out t end none taken put ends fits =
         let foreign : (o .on && not (onRoster id block)) ≡ true = rw (on, none) in
-        let untouched : mid ≡ before = taken .puts ∙ ap (λ ls. placedAt 0 (bytesOfLines ls) before) opened-silent ∙ place-none 0 before in
-        step-as (inBytes (pageOpening id (noLines l) block)) (inBytes (outsideOutcome (noLines l) o)) (noLines after) before out _
+        let untouched : mid ≡ before = taken .puts ∙ ap (λ ls. placedAt 0 (bytesOfLines ls) before) opened-silent
+        ∙ place-none 0 before in
+        step-as (inBytes (pageOpening id (noLines l) block)) (inBytes (outsideOutcome (noLines l) o))
+        (noLines after) before out _
         (ap (λ u. inBytes (cond u (outsideOutcome (noLines l) o) (pageOutcome id (noLines l) o))) foreign)
         (step-written (inBytes (outsideOutcome (noLines l) o)) (noLines after) _ before out end false (ap noLines (taken .leaves)) (one-line _) refl
         (put ∙ ap (placedAt 0 _) untouched) ends fits)
@@ -166,7 +187,8 @@ module _ (l block : List ℕ) where
     -- with the ids of the block
     opened-ids : Bytes block → idsIn (ledgerOf (opening block l .ledger)) ≡ blockOf block .ids
     unfolding afterCalls newYear idsIn accountByRows
-    opened-ids bytes = ap (map (λ a. a .id)) (kept block l bytes opened-zero [] .sums .accounts) ∙ ids-same (blockOf block .ids)
+    opened-ids bytes =
+        ap (map (λ a. a .id)) (kept block l bytes opened-zero [] .sums .accounts) ∙ ids-same (blockOf block .ids)
       where
         ids-same : (is : List ℕ) → map (λ a. a .id) (map (accountByRows []) is) ≡ is
         ids-same [] = refl
@@ -189,8 +211,10 @@ module _ (l block after before out : List ℕ) (t : Taken) (taken : StepTaken (i
   went-on on e = sym (taken .goes-on) ∙ e
 
   -- where it is not, the page stops too
-  pub stopped-paged : (id : ℕ) → t .on ≡ false → StepTaken (inBytes (pageOpening id (noLines l) block)) (noLines after) before out t
-  stopped-paged id off = opening-paged l block id after before out t (known-first (openingListed l block .on) (onRoster id block) (went-on false off)) taken
+  pub stopped-paged : (id : ℕ) → t .on ≡ false
+      → StepTaken (inBytes (pageOpening id (noLines l) block)) (noLines after) before out t
+  stopped-paged id off = opening-paged l block id after before out t
+      (known-first (openingListed l block .on) (onRoster id block) (went-on false off)) taken
 
   -- where it is, and the block is one of bytes
   module _ (on : t .on ≡ true) (bytes : Bytes block) where
@@ -208,31 +232,40 @@ module _ (l block after before out : List ℕ) (t : Taken) (taken : StepTaken (i
     -- with an id on the roster the page goes on
     pub known-paged : (id : ℕ) (has : Bool) → has ≡ any (λ i. eqb i id) (idsIn (ledgerOf after)) → has ≡ true
         → StepTaken (inBytes (pageOpening id (noLines l) block)) (noLines after) before out t
-    known-paged id has is known = opening-paged l block id after before out t (known-second (openingListed l block .on) (onRoster id block) (roster-is id ∙ sym is ∙ known)) taken
+    known-paged id has is known = opening-paged l block id after before out t
+        (known-second (openingListed l block .on) (onRoster id block) (roster-is id ∙ sym is ∙ known)) taken
 
     -- with another it ends with the refusal
-    pub foreign-paged : (id : ℕ) (has : Bool) → has ≡ any (λ i. eqb i id) (idsIn (ledgerOf after)) → has ≡ false → (last : List ℕ) (end : ℕ)
-        → last ≡ placedAt 0 (bytesOfLine (Line.refused 0 outsideRoster)) out → end ≡ 0 + length (bytesOfLine (Line.refused 0 outsideRoster)) → end ≤ length last
-        → StepTaken (inBytes (pageOpening id (noLines l) block)) (noLines after) before last (record { end = end; on = false })
-    foreign-paged id has is unknown last end = outside-paged l block (went-on true on) id after before out last t end (roster-is id ∙ sym is ∙ unknown) taken
+    pub foreign-paged : (id : ℕ) (has : Bool) → has ≡ any (λ i. eqb i id) (idsIn (ledgerOf after)) → has ≡ false
+        → (last : List ℕ) (end : ℕ)
+        → last ≡ placedAt 0 (bytesOfLine (Line.refused 0 outsideRoster)) out
+        → end ≡ 0 + length (bytesOfLine (Line.refused 0 outsideRoster)) → end ≤ length last
+        → StepTaken (inBytes (pageOpening id (noLines l) block)) (noLines after) before last
+        (record { end = end; on = false })
+    foreign-paged id has is unknown last end =
+        outside-paged l block (went-on true on) id after before out last t end (roster-is id ∙ sym is ∙ unknown) taken
 
 -- a stop after the opening, whose line and the year after it are written
-pub year-after : (id : ℕ) (s : PageState) (lines : List Line) (before x out : List ℕ) (m end : ℕ) → length (bytesOfLines lines) ≤ length before
+pub year-after : (id : ℕ) (s : PageState) (lines : List Line) (before x out : List ℕ) (m end : ℕ)
+    → length (bytesOfLines lines) ≤ length before
     → x ≡ placedAt 0 (bytesOfLines lines) before → m ≡ length (bytesOfLines lines)
     → out ≡ placedAt m (bytesOfLine (Line.year (yearOf id (s .shortfall) (s .bonus) (s .ledger)))) x
     → end ≡ m + length (bytesOfLine (Line.year (yearOf id (s .shortfall) (s .bonus) (s .ledger))))
-    → (out ≡ placedAt 0 (bytesOfLines (lines ++ yearLines id s)) before) × (end ≡ length (bytesOfLines (lines ++ yearLines id s)))
+    → (out ≡ placedAt 0 (bytesOfLines (lines ++ yearLines id s)) before)
+    × (end ≡ length (bytesOfLines (lines ++ yearLines id s)))
 unfolding yearLines
 year-after id s lines before x out m end room first from second ends =
     let year = Line.year (yearOf id (s .shortfall) (s .bonus) (s .ledger)) in
-    let both = then-place 0 (bytesOfLines lines) (bytesOfLine year) before x out m end (omega arith) first (from ∙ sym (zero-add _)) second ends in
+    let both = then-place 0 (bytesOfLines lines) (bytesOfLine year) before x out m end (omega arith) first
+    (from ∙ sym (zero-add _)) second ends in
     let same : bytesOfLines lines ++ bytesOfLine year ≡ bytesOfLines (lines ++ year ∷ []) =
     ap (λ b. bytesOfLines lines ++ b) (one-line year) ∙ sym (lines-append lines (year ∷ []))
     in
     (both .0 ∙ ap (λ b. placedAt 0 b before) same, both .1 ∙ zero-add _ ∙ ap length same)
 
 -- the lines at an end after the opening
-pub end-later : (id number : ℕ) (s : PageState) (e : End) → (number ≡ 0 → ⊥) → endLines number e ++ yearLines id s ≡ pageEnd id number s e
+pub end-later : (id number : ℕ) (s : PageState) (e : End) → (number ≡ 0 → ⊥)
+    → endLines number e ++ yearLines id s ≡ pageEnd id number s e
 unfolding pageEnd
 end-later id number s e later = sym (rw (ne-eqb number 0 later))
 

@@ -19,10 +19,36 @@ use Rattle.stream.specs.Steps.{Outcome, step, joined, stepsOver}
 use Rattle.reading.specs.Interval.{Row, headerOf, rowsOf}
 use Rattle.ledger.specs.Opening.{opening}
 use Rattle.settling.specs.Settling.{resultHeaderBytes, resultRowBytes, SettlingAnswer, settling}
-use Rattle.year.specs.Year.{Call, GivenRow, GivenInterval, givenFrom, givenBy, intervalBy, Year, newYear, afterAnswer, afterCall, afterCalls, sumOfPlant}
+use Rattle.year.specs.Year.{
+  Call,
+  GivenRow,
+  GivenInterval,
+  givenFrom,
+  givenBy,
+  intervalBy,
+  Year,
+  newYear,
+  afterAnswer,
+  afterCall,
+  afterCalls,
+  sumOfPlant,
+}
 use Rattle.year.proofs.Calls.{answer-leaves}
 use Rattle.listing.specs.Lines.{RowLine, Line}
-use Rattle.listing.specs.Npalist.{rowLine, rowLines, fileLines, poolLine, intervalLines, resultBuffer, openingListed, intervalListed, blockListed, mostBytes, listingSteps, ledgerBuffer}
+use Rattle.listing.specs.Npalist.{
+  rowLine,
+  rowLines,
+  fileLines,
+  poolLine,
+  intervalLines,
+  resultBuffer,
+  openingListed,
+  intervalListed,
+  blockListed,
+  mostBytes,
+  listingSteps,
+  ledgerBuffer,
+}
 use Rattle.page.specs.Page.{onPage, chosen, figureOn, summed}
 use Rattle.page.proofs.StepLaws.{chosen-append, opened-zero, opened-silent, opening-leaves}
 use Rattle.page.proofs.Printed.{overNext, summed-append, end-chosen, end-none, listed-block}
@@ -56,7 +82,8 @@ module _ (f : RowLine → ℕ) (g : GivenRow → ℕ) (same : (interval : ℕ) (
   rows-sum interval [] b = refl
   rows-sum interval (r ∷ rs) b = by (eqb (r .id) id) (rows-sum interval rs (drop resultRowBytes b))
     where
-      by : (t : Bool) → lineSum (rowLines interval rs (drop resultRowBytes b)) ≡ givenSum (givenFrom rs (drop resultRowBytes b))
+      by : (t : Bool) → lineSum (rowLines interval rs (drop resultRowBytes b))
+          ≡ givenSum (givenFrom rs (drop resultRowBytes b))
           → summed f (cond t (rowLine interval (r .id) b ∷ chosen id (rowLines interval rs (drop resultRowBytes b))) (chosen id (rowLines interval rs (drop resultRowBytes b))))
           ≡ cond t (g (givenAt r b)) 0 + givenSum (givenFrom rs (drop resultRowBytes b))
       by true below = ap₂ (λ m n. m + n) (same interval r b) below
@@ -68,7 +95,8 @@ module _ (f : RowLine → ℕ) (g : GivenRow → ℕ) (same : (interval : ℕ) (
 
   -- the lines of a settled file have the sum of the rows that it gives
   settled-sum : (y : Year) (file result : List ℕ)
-      → givenSum (y .given) + lineSum (fileLines file result ++ (poolLine (headerOf file .interval) result ∷ [])) ≡ givenSum (y .given ++ intervalBy file result .rows)
+      → givenSum (y .given) + lineSum (fileLines file result ++ (poolLine (headerOf file .interval) result ∷ []))
+      ≡ givenSum (y .given ++ intervalBy file result .rows)
   unfolding intervalBy givenBy
   settled-sum y file result =
       let pool : lineSum (poolLine (headerOf file .interval) result ∷ []) ≡ 0 = unfold chosen onPage poolLine summed sum in refl in
@@ -78,15 +106,18 @@ module _ (f : RowLine → ℕ) (g : GivenRow → ℕ) (same : (interval : ℕ) (
       omega (arith, pool, lines, rows, given)
 
   -- and a refusal has none
-  refused-sum : (number ground : ℕ) (y : Year) → givenSum (y .given) + lineSum (Line.refused number ground ∷ []) ≡ givenSum (y .given)
+  refused-sum : (number ground : ℕ) (y : Year)
+      → givenSum (y .given) + lineSum (Line.refused number ground ∷ []) ≡ givenSum (y .given)
   unfolding chosen onPage summed sum figureOn
   refused-sum number ground y = omega arith
 
   -- the lines of an interval block, accepted or refused, have the sum of the rows that its call gives
   call-sum : (number : ℕ) (y : Year) (file : List ℕ)
-      → givenSum (y .given) + lineSum (intervalListed number (y .ledger) file .printed) ≡ givenSum (afterCall y (callOf file) .given)
+      → givenSum (y .given) + lineSum (intervalListed number (y .ledger) file .printed)
+      ≡ givenSum (afterCall y (callOf file) .given)
   unfolding intervalListed intervalLines afterCall afterAnswer
-  call-sum number y file = by (settling (y .ledger) file resultBuffer) (eqb (settling (y .ledger) file resultBuffer .ground) 0)
+  call-sum number y file =
+      by (settling (y .ledger) file resultBuffer) (eqb (settling (y .ledger) file resultBuffer .ground) 0)
     where
       by : (a : SettlingAnswer) (t : Bool)
           → givenSum (y .given) + lineSum (cond t (fileLines file (a .result) ++ (poolLine (headerOf file .interval) (a .result) ∷ [])) (Line.refused number (a .ground) ∷ []))
@@ -102,23 +133,27 @@ module _ (f : RowLine → ℕ) (g : GivenRow → ℕ) (same : (interval : ℕ) (
       by a false = refused-sum number (a .ground) y
 
   -- an end leaves the ledger
-  end-ledger : (budget number : ℕ) (y : Year) (e : End) → overNext listingSteps budget number (y .ledger) (Next.stop e) .state ≡ y .ledger
+  end-ledger : (budget number : ℕ) (y : Year) (e : End)
+      → overNext listingSteps budget number (y .ledger) (Next.stop e) .state ≡ y .ledger
   unfolding overNext step
   end-ledger budget number y e = refl
 
   -- and adds nothing
   end-sum : (budget number : ℕ) (y : Year) (e : End)
-      → givenSum (y .given) + lineSum (overNext listingSteps budget number (y .ledger) (Next.stop e) .printed) ≡ givenSum (y .given)
+      → givenSum (y .given) + lineSum (overNext listingSteps budget number (y .ledger) (Next.stop e) .printed)
+      ≡ givenSum (y .given)
   unfolding overNext step listingSteps
   end-sum budget number y e = omega (arith, ap (summed f) (end-chosen id number e), end-none id f number e)
 
   -- a call leaves the listing's ledger
-  call-ledger : (number : ℕ) (y : Year) (file : List ℕ) → intervalListed number (y .ledger) file .state ≡ afterCall y (callOf file) .ledger
+  call-ledger : (number : ℕ) (y : Year) (file : List ℕ)
+      → intervalListed number (y .ledger) file .state ≡ afterCall y (callOf file) .ledger
   unfolding intervalListed afterCall
   call-ledger number y file = sym (answer-leaves y (callOf file) (settling (y .ledger) file resultBuffer))
 
   -- the lines of one outcome and then another
-  joined-lines : (first later all : Outcome Line (List ℕ)) → all ≡ joined first later → lineSum (all .printed) ≡ lineSum (first .printed ++ later .printed)
+  joined-lines : (first later all : Outcome Line (List ℕ)) → all ≡ joined first later
+      → lineSum (all .printed) ≡ lineSum (first .printed ++ later .printed)
   unfolding joined
   joined-lines first later all e = ap (λ o. lineSum (o .printed)) e
 
@@ -131,12 +166,16 @@ module _ (f : RowLine → ℕ) (g : GivenRow → ℕ) (same : (interval : ℕ) (
   abbrev pub Given : ℕ → ℕ → Year → List ℕ → Type 0
   Given budget number y stream =
       let o = stepsOver listingSteps budget number (y .ledger) stream in
-      (calls : List Call) × (o .state ≡ afterCalls y calls .ledger) × (givenSum (y .given) + lineSum (o .printed) ≡ givenSum (afterCalls y calls .given))
+      (calls : List Call) × (o .state ≡ afterCalls y calls .ledger)
+      × (givenSum (y .given) + lineSum (o .printed) ≡ givenSum (afterCalls y calls .given))
 
   -- from what comes next on
-  given-next : (budget : ℕ) → ((number : ℕ) (y : Year) (stream : List ℕ) → (number ≡ 0 → ⊥) → Given budget number y stream)
-      → (number : ℕ) (y : Year) (n : Next) → (number ≡ 0 → ⊥) → let o = overNext listingSteps budget number (y .ledger) n in
-      (calls : List Call) × (o .state ≡ afterCalls y calls .ledger) × (givenSum (y .given) + lineSum (o .printed) ≡ givenSum (afterCalls y calls .given))
+  given-next : (budget : ℕ)
+      → ((number : ℕ) (y : Year) (stream : List ℕ) → (number ≡ 0 → ⊥) → Given budget number y stream)
+      → (number : ℕ) (y : Year) (n : Next) → (number ≡ 0 → ⊥) → let o =
+      overNext listingSteps budget number (y .ledger) n in
+      (calls : List Call) × (o .state ≡ afterCalls y calls .ledger)
+      × (givenSum (y .given) + lineSum (o .printed) ≡ givenSum (afterCalls y calls .given))
   unfolding afterCalls
   given-next budget below number y (Next.stop e) some = ([], end-ledger budget number y e, end-sum budget number y e)
   given-next budget below number y (Next.block bytes rest) some =
@@ -157,7 +196,8 @@ module _ (f : RowLine → ℕ) (g : GivenRow → ℕ) (same : (interval : ℕ) (
   given-after : (budget number : ℕ) (y : Year) (stream : List ℕ) → (number ≡ 0 → ⊥) → Given budget number y stream
   unfolding stepsOver overNext listingSteps afterCalls chosen summed sum
   given-after zero number y stream some = ([], refl, omega arith)
-  given-after (suc budget) number y stream some = given-next budget (given-after budget) number y (nextBlock (mostBytes number) stream) some
+  given-after (suc budget) number y stream some =
+      given-next budget (given-after budget) number y (nextBlock (mostBytes number) stream) some
 
   -- an accepted opening prints nothing, and leaves the ledger of a year without calls
   first-joined : (budget : ℕ) (bytes rest : List ℕ) → openingListed ledgerBuffer bytes .on ≡ true
@@ -168,7 +208,8 @@ module _ (f : RowLine → ℕ) (g : GivenRow → ℕ) (same : (interval : ℕ) (
       let o = openingListed ledgerBuffer bytes in
       let later = stepsOver listingSteps budget 1 (o .state) rest in
       ap (λ t. cond t (joined o later) o) on
-      ∙ ap (λ ls. record { printed = ls ++ later .printed; state = later .state; on = later .on }) (opened-silent ledgerBuffer bytes on)
+      ∙ ap (λ ls. record { printed = ls ++ later .printed; state = later .state; on = later .on })
+      (opened-silent ledgerBuffer bytes on)
       ∙ ap (λ l. stepsOver listingSteps budget 1 l rest) (opening-leaves ledgerBuffer bytes)
 
   -- a year without calls has given nothing
@@ -185,6 +226,7 @@ module _ (f : RowLine → ℕ) (g : GivenRow → ℕ) (same : (interval : ℕ) (
   unfolding step listingSteps blockListed bytesOfNext
   given-first budget (Next.stop e) on = never on
   given-first budget (Next.block bytes rest) on =
-      let (calls, ledger, sums) = given-after budget 1 (newYear (opening bytes ledgerBuffer .ledger)) rest (λ z. omega arith) in
+      let (calls, ledger, sums) = given-after budget 1 (newYear (opening bytes ledgerBuffer .ledger)) rest
+      (λ z. omega arith) in
       let first = first-joined budget bytes rest on in
       (calls, opened-zero ledgerBuffer bytes on, ap (λ o. o .state) first ∙ ledger, ap (λ o. lineSum (o .printed)) first ∙ from-none _ _ _ sums)

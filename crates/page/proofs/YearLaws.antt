@@ -22,7 +22,8 @@ pub year-holds : {l : List ℕ} → YearLedger l → notALedger l ≡ false
 year-holds y = ap notALedger (y .leaves) ∙ kept (y .block) (y .buffer) (y .bytes) (y .accepted) (y .calls) .holds
 
 -- an accepted opening leaves one
-pub year-opened : (l block after before out : List ℕ) (t : Taken) → StepTaken (inBytes (openingListed l block)) after before out t → t .on ≡ true
+pub year-opened : (l block after before out : List ℕ) (t : Taken)
+    → StepTaken (inBytes (openingListed l block)) after before out t → t .on ≡ true
     → Bytes block → YearLedger after
 unfolding inBytes openingListed afterCalls newYear
 year-opened l block after before out t taken on bytes = record {
@@ -41,7 +42,8 @@ one-more y [] c = refl
 one-more y (d ∷ cs) c = one-more (afterCall y d) cs c
 
 -- and each call of settling leaves another
-pub year-settled : {l : List ℕ} (file result after : List ℕ) → YearLedger l → after ≡ settling l file result .ledger → YearLedger after
+pub year-settled : {l : List ℕ} (file result after : List ℕ) → YearLedger l → after ≡ settling l file result .ledger
+    → YearLedger after
 unfolding afterCall
 year-settled {l} file result after y e =
     let c : Call = record { file = file; result = result } in

@@ -145,4 +145,5 @@ point-in p e = record { price = search facts; kw = search facts }
 pub rows-in : (f : List ℕ) → any rowOutside (rowWordsOf f) ≡ false → (r : Row) → List·Memᴰ r (rowsOf f) → RowIn r
 unfolding rowOf
 rows-in f e r m =
-    each-mapped rowOutside (rowOf f) RowIn (λ w. row-in w (map (scheduleOf f) (schedulesNamed f w))) (rowWordsOf f) e r (rw rows-of-words at m)
+    each-mapped rowOutside (rowOf f) RowIn (λ w. row-in w (map (scheduleOf f) (schedulesNamed f w))) (rowWordsOf f) e r
+    (rw rows-of-words at m)

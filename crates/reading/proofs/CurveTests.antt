@@ -36,7 +36,8 @@ module _ (points : ℕ) (s : ScheduleWords) where
   count-above h = rw (lies-above 1 mostCurvePoints (s .count) h)
 
   -- where there are some points, but not too many, the place decides: they must end within the file's points
-  pub place-left : 1 ≤ s .count → s .count ≤ mostCurvePoints → curveMisplaced points s ≡ ltb points (s .first + s .count)
+  pub place-left : 1 ≤ s .count → s .count ≤ mostCurvePoints
+      → curveMisplaced points s ≡ ltb points (s .first + s .count)
   unfolding curveMisplaced
   place-left some few = rw (lies-inside 1 mostCurvePoints (s .count) some few)
 

@@ -51,7 +51,8 @@ pub names-schedules : (format rows : ℕ) {naming : ℕ} (i : ℕ) → naming �
     → (format ≡ curvesFormat → ⊥) × (i < rows)
 names-schedules format rows {naming} i = by (eqb format curvesFormat) refl
   where
-    by : (t : Bool) → eqb format curvesFormat ≡ t → naming ≡ cond t 0 rows → i < naming → (format ≡ curvesFormat → ⊥) × (i < rows)
+    by : (t : Bool) → eqb format curvesFormat ≡ t → naming ≡ cond t 0 rows → i < naming
+        → (format ≡ curvesFormat → ⊥) × (i < rows)
     by true e is h = absurd (omega arith)
     by false e is h = (eqb-false format curvesFormat e, omega arith)
 
@@ -65,8 +66,10 @@ module _ (f : List ℕ) where
   abbrev pub rowFrom : (RowWords → Bool) → ℕ → Bool
   rowFrom ground i = any ground (wordsLeft f i)
 
-  -- a ground depends on the rows from i on: on what the first of them tells, which has the words w, or on those after it
-  pub row-turn : (ground : RowWords → Bool) (i : ℕ) (w : RowWords) → w ≡ rowWordsAt f i → someRow ground ≡ rowFrom ground i
+  -- a ground depends on the rows from i on: on what the first of them tells, which has the words w,
+  -- or on those after it
+  pub row-turn : (ground : RowWords → Bool) (i : ℕ) (w : RowWords) → w ≡ rowWordsAt f i
+      → someRow ground ≡ rowFrom ground i
       → (told : Bool) → i < headerOf f .rowCount → ground w ≡ told → someRow ground ≡ (told || rowFrom ground (i + 1))
   row-turn ground i w here left told h e = any-turn ground told left (words-turn f i h) (ap ground (sym here) ∙ e)
 
@@ -87,7 +90,8 @@ module _ (f : List ℕ) where
   schedules-pass {format} {rows} {naming} i said count = by (eqb format curvesFormat) refl
     where
       by : (t : Bool) → eqb format curvesFormat ≡ t → naming ≡ cond t 0 rows
-          → someRow (schedulesOutside f) ≡ rowFrom (schedulesOutside f) i → naming ≤ i → someRow (schedulesOutside f) ≡ false
+          → someRow (schedulesOutside f) ≡ rowFrom (schedulesOutside f) i → naming ≤ i
+          → someRow (schedulesOutside f) ≡ false
       by true e is left h = curves-none f (sym said ∙ eqb-true format curvesFormat e)
       by false e is left h = rows-pass (schedulesOutside f) i left (omega arith)
 
@@ -157,7 +161,8 @@ module _ (f : List ℕ) where
         point-fails h e = fault-found (rw (left, curve-turn n c j h, e))
 
         -- point j is not refused, so the points after it and what comes after them decide
-        pub point-passes : j < n → pointRefused c j ≡ false → someRow (pointsOutside f) ≡ (curveLeft n c (j + 1) || rest)
+        pub point-passes : j < n → pointRefused c j ≡ false
+            → someRow (pointsOutside f) ≡ (curveLeft n c (j + 1) || rest)
         point-passes h e = rw (left, curve-turn n c j h, e)
 
         -- no point is left, so what comes after them decides

@@ -146,7 +146,8 @@ unfolding scheduleAt schedulesNamed tableSchedules
 schedule-first f bytes w small k =
     let at = headerOf f .schedulesOffset + scheduleBytes * w .first in
     let listed = table-first (w .count) (drop at f) (drop-bytes at f bytes) k in
-    in-either (λ (l : List ScheduleWords). getD l k noSchedule .first < 2 ^ 32) (own-first w small k) listed (headerOf f .format)
+    in-either (λ (l : List ScheduleWords). getD l k noSchedule .first < 2 ^ 32) (own-first w small k) listed
+    (headerOf f .format)
 
 -- schedules that do not reach beyond the table end within it, if the rows name schedules and this one names any
 pub schedules-end : (h : Header) (w : RowWords) → (h .format ≡ curvesFormat → ⊥) → schedulesBeyond h w ≡ false

@@ -19,7 +19,8 @@ use Rattle.ledger.proofs.WalkLaws.{BudgetAt, budget-starts, budget-enough, budg
 module _ (l f : List ℕ) where
   -- the comparisons left of its budget, with row i next, before account j
   unfoldable pub Budget : ℕ → ℕ → ℕ → Type 0
-  Budget i j budget = BudgetAt (map (λ r. r .id) (rowsOf f)) (idsIn (ledgerOf l)) (map (λ r. r .id) (rowsLeft f i)) j budget
+  Budget i j budget =
+      BudgetAt (map (λ r. r .id) (rowsOf f)) (idsIn (ledgerOf l)) (map (λ r. r .id) (rowsLeft f i)) j budget
 
   module _ {h : HeaderValue} (read : HeaderRead f h) where
     -- it begins with as many as there are rows and accounts together
@@ -27,18 +28,22 @@ module _ (l f : List ℕ) where
     unfolding Budget
     budget-begins budget j e none =
         let rows = length-map (rowsOf f) (λ r. r .id) ∙ length-rows f ∙ sym (row-count read) in
-        let all = budget-starts (map (λ r. r .id) (rowsOf f)) (idsIn (ledgerOf l)) budget (omega (arith, e, rows, length-account-ids l)) in
+        let all = budget-starts (map (λ r. r .id) (rowsOf f)) (idsIn (ledgerOf l)) budget
+        (omega (arith, e, rows, length-account-ids l)) in
         subst (λ i. BudgetAt (map (λ r. r .id) (rowsOf f)) (idsIn (ledgerOf l)) (map (λ r. r .id) (rowsLeft f 0)) i budget) (sym none)
         (subst (λ rs. BudgetAt (map (λ r. r .id) (rowsOf f)) (idsIn (ledgerOf l)) (map (λ r. r .id) rs) 0 budget) (rows-start f) all)
 
     -- row i, read as words w, and the ids from account j on
-    module _ (i j budget : ℕ) (at : Budget i j budget) (row : i < h .rows) {w : RowWords} (is : w ≡ rowWordsAt f i) {xs : List ℕ}
+    module _ (i j budget : ℕ) (at : Budget i j budget) (row : i < h .rows) {w : RowWords}
+        (is : w ≡ rowWordsAt f i) {xs : List ℕ}
         (from : xs ≡ drop j (idsIn (ledgerOf l))) where
       -- the budget, with the row's id the next
-      next : BudgetAt (map (λ r. r .id) (rowsOf f)) (idsIn (ledgerOf l)) (w .id ∷ map (λ r. r .id) (rowsLeft f (i + 1))) j budget
+      next : BudgetAt (map (λ r. r .id) (rowsOf f)) (idsIn (ledgerOf l))
+          (w .id ∷ map (λ r. r .id) (rowsLeft f (i + 1))) j budget
       unfolding Budget rowOf rowWith
       next =
-          subst (λ rs. BudgetAt (map (λ r. r .id) (rowsOf f)) (idsIn (ledgerOf l)) (map (λ r. r .id) rs) j budget) (next-row read i row is) at
+          subst (λ rs. BudgetAt (map (λ r. r .id) (rowsOf f)) (idsIn (ledgerOf l)) (map (λ r. r .id) rs) j budget)
+          (next-row read i row is) at
 
       -- what the row's id takes is left
       pub row-enough : comparisons (w .id) xs ≤ budget
@@ -47,8 +52,10 @@ module _ (l f : List ℕ) where
           (budget-enough (map (λ r. r .id) (rowsOf f)) (idsIn (ledgerOf l)) (w .id) (map (λ r. r .id) (rowsLeft f (i + 1))) j budget next)
 
       -- and the rest is left for the rows after it
-      pub row-spends : (k spent : ℕ) → k ≡ j + before (w .id) xs → spent ≡ budget - comparisons (w .id) xs → Budget (i + 1) (k + 1) spent
+      pub row-spends : (k spent : ℕ) → k ≡ j + before (w .id) xs → spent ≡ budget - comparisons (w .id) xs
+          → Budget (i + 1) (k + 1) spent
       unfolding Budget
       row-spends k spent place rest =
-          budget-turn (map (λ r. r .id) (rowsOf f)) (idsIn (ledgerOf l)) (w .id) (map (λ r. r .id) (rowsLeft f (i + 1))) j budget k spent next
+          budget-turn (map (λ r. r .id) (rowsOf f)) (idsIn (ledgerOf l)) (w .id)
+          (map (λ r. r .id) (rowsLeft f (i + 1))) j budget k spent next
           (place ∙ ap (λ xs. j + before (w .id) xs) from) (rest ∙ ap (λ xs. budget - comparisons (w .id) xs) from)

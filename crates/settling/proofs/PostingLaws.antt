@@ -284,7 +284,8 @@ module _ {b file : List ℕ} {s : StandingValue} {h : HeaderValue} (p : Passed b
     -- n of them stand in it
     accounts-there : (n : ℕ) → j + n ≤ accountCount b
         → drop (ledgerBytes j) ledger ≡ bytesOfWords 8 (accountsFrom b n j) ++ drop (ledgerBytes (j + n)) b
-    accounts-there n few = posting .behind ∙ accounts-stand b n j bytes few (rw (← accounts-are p) (p .ledger-read .room))
+    accounts-there n few =
+        posting .behind ∙ accounts-stand b n j bytes few (rw (← accounts-are p) (p .ledger-read .room))
 
     -- where no row is left, all are posted
     posting-ends : headerOf file .rowCount ≤ i → j ≤ accountCount b

@@ -92,7 +92,8 @@ module _ {ledger file : List ℕ} {s : StandingValue} {h : HeaderValue} (p : Pas
 
   -- they keep their bounds
   pub terms-within : TermsIn (ledgerOf ledger .terms)
-  terms-within = terms-in (ledgerOf ledger .terms) (subst (λ t. termsOutside t ≡ false) terms-are (p .ledger-read .terms))
+  terms-within =
+      terms-in (ledgerOf ledger .terms) (subst (λ t. termsOutside t ≡ false) terms-are (p .ledger-read .terms))
 
   -- the region-wide word that was read is the header's
   pub region-is : h .«region_wide» ≡ headerOf file .regionWide

@@ -8,5 +8,6 @@ use Rattle.standard.specs.Input.{ReadNext}
 use Rattle.standard.specs.declared.Read.{Read}
 
 -- what was read of a block is no more than the most bytes of one
-pub read-within : (most : ℕ) (head block : List ℕ) (r : Read) → ReadNext most head r → most ≤ length block → r .block ≤ length block
+pub read-within : (most : ℕ) (head block : List ℕ) (r : Read) → ReadNext most head r → most ≤ length block
+    → r .block ≤ length block
 read-within most head block r next room = omega (arith, next, due-most most (take (r .length) head))

@@ -20,7 +20,8 @@ onward-same : {A S : Type 0} (p : Steps A S) (number : ℕ) (state : S) (next : 
     → onward (step p number state next) x ≡ onward (step p number state next) y
 unfolding onward step
 onward-same p number state (Next.stop e) x y same = refl
-onward-same p number state (Next.block bytes rest) x y same = ap (onward (p .block number state bytes)) (same bytes rest refl)
+onward-same p number state (Next.block bytes rest) x y same =
+    ap (onward (p .block number state bytes)) (same bytes rest refl)
 
 -- what stops later has stopped
 onward-stops : {A S : Type 0} (p : Steps A S) (number : ℕ) (state : S) (next : Next) (x : Outcome A S)
@@ -30,18 +31,22 @@ unfolding onward step joined
 onward-stops p number state (Next.stop e) x later = refl
 onward-stops p number state (Next.block bytes rest) x later = by (p .block number state bytes .on) refl
   where
-    by : (t : Bool) → p .block number state bytes .on ≡ t → cond t (joined (p .block number state bytes) x) (p .block number state bytes) .on ≡ false
+    by : (t : Bool) → p .block number state bytes .on ≡ t
+        → cond t (joined (p .block number state bytes) x) (p .block number state bytes) .on ≡ false
     by true e = later bytes rest refl
     by false e = e
 
 module _ (A S : Type 0) (p : Steps A S) where
   -- the rest of a stream is shorter than the stream
-  shorter : (number : ℕ) (s bytes rest : List ℕ) → nextBlock (p .most number) s ≡ Next.block bytes rest → length (after (nextBlock (p .most number) s)) < length s
+  shorter : (number : ℕ) (s bytes rest : List ℕ) → nextBlock (p .most number) s ≡ Next.block bytes rest
+      → length (after (nextBlock (p .most number) s)) < length s
   unfolding after
-  shorter number s bytes rest is = omega (arith, ap (λ k. length (after k)) is, rest-left (p .most number) s bytes rest is .1)
+  shorter number s bytes rest is =
+      omega (arith, ap (λ k. length (after k)) is, rest-left (p .most number) s bytes rest is .1)
 
   -- a budget of more steps than bytes is never used up
-  never-used-up : (budget number : ℕ) (state : S) (s : List ℕ) → length s < budget → stepsOver p budget number state s .on ≡ false
+  never-used-up : (budget number : ℕ) (state : S) (s : List ℕ) → length s < budget
+      → stepsOver p budget number state s .on ≡ false
   unfolding stepsOver onward
   never-used-up zero number state s h = absurd (omega arith)
   never-used-up (suc budget) number state s h =
@@ -50,7 +55,8 @@ module _ (A S : Type 0) (p : Steps A S) where
       (λ bytes rest is. never-used-up budget (number + 1) (step p number state next .state) (after next) (omega (arith, shorter number s bytes rest is)))
 
   -- one step more of it changes nothing
-  one-more : (budget number : ℕ) (state : S) (s : List ℕ) → length s < budget → stepsOver p (suc budget) number state s ≡ stepsOver p budget number state s
+  one-more : (budget number : ℕ) (state : S) (s : List ℕ) → length s < budget
+      → stepsOver p (suc budget) number state s ≡ stepsOver p budget number state s
   unfolding stepsOver onward
   one-more zero number state s h = absurd (omega arith)
   one-more (suc budget) number state s h =
@@ -59,14 +65,17 @@ module _ (A S : Type 0) (p : Steps A S) where
       (λ bytes rest is. one-more budget (number + 1) (step p number state next .state) (after next) (omega (arith, shorter number s bytes rest is)))
 
   -- however many more there are
-  many-more : (more number : ℕ) (state : S) (s : List ℕ) → stepsOver p (more + (length s + 1)) number state s ≡ stepsOver p (length s + 1) number state s
+  many-more : (more number : ℕ) (state : S) (s : List ℕ)
+      → stepsOver p (more + (length s + 1)) number state s ≡ stepsOver p (length s + 1) number state s
   many-more zero number state s = ap (λ b. stepsOver p b number state s) (omega arith)
   many-more (suc more) number state s =
       let next : suc more + (length s + 1) ≡ suc (more + (length s + 1)) = omega arith in
-      ap (λ b. stepsOver p b number state s) next ∙ one-more (more + (length s + 1)) number state s (omega arith) ∙ many-more more number state s
+      ap (λ b. stepsOver p b number state s) next ∙ one-more (more + (length s + 1)) number state s (omega arith)
+      ∙ many-more more number state s
 
   -- steps that read do what steps on the whole stream do
-  reading-same : (budget number : ℕ) (state : S) (s : List ℕ) → readingSteps p budget number state s ≡ stepsOver p budget number state s
+  reading-same : (budget number : ℕ) (state : S) (s : List ℕ)
+      → readingSteps p budget number state s ≡ stepsOver p budget number state s
   unfolding stepsOver readingSteps onward after
   reading-same zero number state s = refl
   reading-same (suc budget) number state s =
@@ -76,7 +85,8 @@ module _ (A S : Type 0) (p : Steps A S) where
       ∙ onward-same p number state next _ _
       (λ bytes left is.
       reading-same budget (number + 1) (step p number state next .state) rest
-      ∙ ap (stepsOver p budget (number + 1) (step p number state next .state)) (sym (rest-left (p .most number) s bytes left is .0) ∙ sym (ap after is)))
+      ∙ ap (stepsOver p budget (number + 1) (step p number state next .state))
+      (sym (rest-left (p .most number) s bytes left is .0) ∙ sym (ap after is)))
 
 -- a budget greater than the stream's length is enough
 pub budget-is-enough : BudgetIsEnough
@@ -88,4 +98,5 @@ pub reading-is-enough : ReadingIsEnough
 unfolding ReadingIsEnough
 reading-is-enough A S p budget number state s h =
     let all : budget ≡ budget - (length s + 1) + (length s + 1) = omega arith in
-    reading-same A S p budget number state s ∙ ap (λ b. stepsOver p b number state s) all ∙ many-more A S p (budget - (length s + 1)) number state s
+    reading-same A S p budget number state s ∙ ap (λ b. stepsOver p b number state s) all
+    ∙ many-more A S p (budget - (length s + 1)) number state s

@@ -1,4 +1,5 @@
--- The laws of streams: what comes next by the tests that are made, and that a length and the bytes due after it are enough to read.
+-- The laws of streams: what comes next by the tests that are made,
+-- and that a length and the bytes due after it are enough to read.
 use Prim.Native.Nat.{ℕ, zero, suc, _+_, _*_, _≤_, _<_}
 use mathlib.Core.Path.{_≡_, refl, sym, ap, ap₂, _∙_}
 use mathlib.Core.List.{List, [], _∷_, _++_}
@@ -25,7 +26,8 @@ unfolding nextBlock
 next-ended most s e = rw (eq-eqb (length s) 0 e)
 
 -- some bytes, but fewer than a length has, are a length that is cut
-pub next-cut : (most : ℕ) (s : List ℕ) → (length s ≡ 0 → ⊥) → length s < lengthBytes → nextBlock most s ≡ Next.stop End.cut
+pub next-cut : (most : ℕ) (s : List ℕ) → (length s ≡ 0 → ⊥) → length s < lengthBytes
+    → nextBlock most s ≡ Next.stop End.cut
 unfolding nextBlock
 next-cut most s some h = rw (ne-eqb (length s) 0 some, lt-ltb (length s) lengthBytes h)
 
@@ -35,7 +37,8 @@ unfolding bytesDue
 due-cut most head h = rw (lt-ltb (length head) lengthBytes h)
 
 -- the bytes due after a whole length of so many bytes
-module _ (most : ℕ) (head : List ℕ) (whole : lengthBytes ≤ length head) (n : ℕ) (w : n ≡ numberAt lengthBytes head 0) where
+module _ (most : ℕ) (head : List ℕ) (whole : lengthBytes ≤ length head) (n : ℕ)
+    (w : n ≡ numberAt lengthBytes head 0) where
   -- go by the limit
   pub due-whole : bytesDue most head ≡ cond (ltb most n) 0 n
   unfolding bytesDue numberAt
@@ -67,7 +70,8 @@ following most n b =
     (Next.block (take n b) (drop n b)))
 
 -- a whole length of so many bytes, and bytes b after it
-module _ (most : ℕ) (head b : List ℕ) (whole : length head ≡ lengthBytes) (n : ℕ) (w : n ≡ numberAt lengthBytes head 0) where
+module _ (most : ℕ) (head b : List ℕ) (whole : length head ≡ lengthBytes) (n : ℕ)
+    (w : n ≡ numberAt lengthBytes head 0) where
   -- the stream has them next
   pub next-following : nextBlock most (head ++ b) ≡ following most n b
   unfolding nextBlock following numberAt
@@ -105,17 +109,20 @@ module _ {A S : Type 0} (p : Steps A S) (number : ℕ) (state : S) (most n : ℕ
       → step p number state (following most n (take (cond t 0 n) b)) ≡ step p number state (following most n b)
   unfolding step following
   due-enough true u e f = rw e refl
-  due-enough false true e f = ap (λ k. step p number state (following most n k)) (take-all n b (omega (arith, ltb-true (length b) n f)))
+  due-enough false true e f =
+      ap (λ k. step p number state (following most n k)) (take-all n b (omega (arith, ltb-true (length b) n f)))
   due-enough false false e f =
       let all : length (take n b) ≡ n = length-take-le n b (ltb-false (length b) n f) in
       rw (e, f, le-ltb (length (take n b)) n (omega arith)) (ap (p .block number state) (take-take n n b (omega arith)))
 
 -- where a block comes next after a length n, the rest of the stream is what follows the bytes due
-following-rest : (most n : ℕ) (b bytes rest : List ℕ) → following most n b ≡ Next.block bytes rest → rest ≡ drop (cond (ltb most n) 0 n) b
+following-rest : (most n : ℕ) (b bytes rest : List ℕ) → following most n b ≡ Next.block bytes rest
+    → rest ≡ drop (cond (ltb most n) 0 n) b
 unfolding following
 following-rest most n b bytes rest is = by (ltb most n) (ltb (length b) n) is
   where
-    by : (t u : Bool) → cond t (Next.stop End.overLong) (cond u (Next.stop End.cut) (Next.block (take n b) (drop n b))) ≡ Next.block bytes rest
+    by : (t u : Bool) → cond t (Next.stop End.overLong) (cond u (Next.stop End.cut) (Next.block (take n b) (drop n b)))
+        ≡ Next.block bytes rest
         → rest ≡ drop (cond t 0 n) b
     by true u q = let z : _≡_ {A = ℕ} 0 1 = cc in absurd (omega arith)
     by false true q = let z : _≡_ {A = ℕ} 0 1 = cc in absurd (omega arith)
@@ -158,7 +165,8 @@ module _ (most : ℕ) (s : List ℕ) where
     front = take-add lengthBytes (bytesDue most head) s ∙ ap (λ k. head ++ take k tail) due
 
     -- it is enough for a step
-    enough-whole : {A S : Type 0} (p : Steps A S) (number : ℕ) (state : S) → step p number state (nextBlock most (take readBytes s)) ≡ step p number state (nextBlock most s)
+    enough-whole : {A S : Type 0} (p : Steps A S) (number : ℕ) (state : S)
+        → step p number state (nextBlock most (take readBytes s)) ≡ step p number state (nextBlock most s)
     enough-whole p number state =
         ap (λ k. step p number state (nextBlock most k)) front
         ∙ ap (step p number state) (next-following most head (take (cond (ltb most n) 0 n) tail) whole n refl)
@@ -182,15 +190,19 @@ module _ (most : ℕ) (s : List ℕ) where
       by false q = let z : _≡_ {A = ℕ} 0 1 = cc in omega arith
 
   -- a length and the bytes due after it are enough for a step
-  pub enough : {A S : Type 0} (p : Steps A S) (number : ℕ) (state : S) → step p number state (nextBlock most (take readBytes s)) ≡ step p number state (nextBlock most s)
+  pub enough : {A S : Type 0} (p : Steps A S) (number : ℕ) (state : S)
+      → step p number state (nextBlock most (take readBytes s)) ≡ step p number state (nextBlock most s)
   enough p number state = by (ltb (length s) lengthBytes) refl
     where
-      by : (t : Bool) → ltb (length s) lengthBytes ≡ t → step p number state (nextBlock most (take readBytes s)) ≡ step p number state (nextBlock most s)
-      by true e = ap (λ k. step p number state (nextBlock most k)) (take-all readBytes s (omega (arith, ltb-true (length s) lengthBytes e)))
+      by : (t : Bool) → ltb (length s) lengthBytes ≡ t
+          → step p number state (nextBlock most (take readBytes s)) ≡ step p number state (nextBlock most s)
+      by true e = ap (λ k. step p number state (nextBlock most k))
+          (take-all readBytes s (omega (arith, ltb-true (length s) lengthBytes e)))
       by false e = enough-whole (ltb-false (length s) lengthBytes e) p number state
 
   -- where a block comes next, what is left is the rest of the stream, and shorter
-  pub rest-left : (bytes rest : List ℕ) → nextBlock most s ≡ Next.block bytes rest → (rest ≡ drop readBytes s) × (length rest < length s)
+  pub rest-left : (bytes rest : List ℕ) → nextBlock most s ≡ Next.block bytes rest
+      → (rest ≡ drop readBytes s) × (length rest < length s)
   rest-left bytes rest is = by (ltb (length s) lengthBytes) refl
     where
       by : (t : Bool) → ltb (length s) lengthBytes ≡ t → (rest ≡ drop readBytes s) × (length rest < length s)

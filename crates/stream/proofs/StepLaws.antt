@@ -17,7 +17,8 @@ use Rattle.stream.specs.Code.{foundAs, StepTaken}
 -- a step whose bytes were written at the front of a buffer
 pub step-written : {S : Type 0} (o : Outcome ℕ S) (state : S) (bytes before after : List ℕ) (end : ℕ) (on : Bool)
     → state ≡ o .state → bytes ≡ o .printed → on ≡ o .on
-    → after ≡ placedAt 0 bytes before → end ≡ 0 + length bytes → end ≤ length after → StepTaken o state before after (record { end = end; on = on })
+    → after ≡ placedAt 0 bytes before → end ≡ 0 + length bytes → end ≤ length after
+    → StepTaken o state before after (record { end = end; on = on })
 step-written o state bytes before after end on left same goes put stops fits = record {
   leaves = left;
   puts = put ∙ ap (λ k. placedAt 0 k before) same;
@@ -38,7 +39,8 @@ step-as o m state before after t same taken = record {
 }
 
 -- where a stream stops it stops at an end, whatever bytes were read
-pub stop-at : (found : Found) → stops (foundAs found []) ≡ true → (e : End) × ((b : List ℕ) → foundAs found b ≡ Next.stop e)
+pub stop-at : (found : Found) → stops (foundAs found []) ≡ true
+    → (e : End) × ((b : List ℕ) → foundAs found b ≡ Next.stop e)
 unfolding foundAs stops
 stop-at Ended h = (End.ended, λ b. refl)
 stop-at Cut h = (End.cut, λ b. refl)

@@ -2,7 +2,17 @@
 use Prim.Native.Nat.{ℕ, zero, suc, _+_, _-_, _*_, _/_, _%_, _^_, _≤_}
 use mathlib.Core.Path.{_≡_, refl, sym, ap, ap₂, _∙_}
 use mathlib.Core.List.{List, [], _∷_, _++_, append-assoc, append-nil}
-use native.Mathlib.Nat.{add-suc, suc-add, add-zero, zero-add, pow-zero, pow-succ', mul-assoc, div-one, div-div-eq-div-mul}
+use native.Mathlib.Nat.{
+  add-suc,
+  suc-add,
+  add-zero,
+  zero-add,
+  pow-zero,
+  pow-succ',
+  mul-assoc,
+  div-one,
+  div-div-eq-div-mul,
+}
 use native.Mathlib.Numerals.{add-one}
 use native.Mathlib.Omega.{arith}
 use borrow.Rule.Slice.PartAt.{part-to-end}
@@ -28,7 +38,8 @@ first-byte n (x ∷ b) zero = refl
 first-byte n (x ∷ b) (suc at) = first-byte n b at
 
 -- a number of m + n bytes is one of m and one of n
-pub split-number : (m n : ℕ) (b : List ℕ) (at : ℕ) → numberAt (m + n) b at ≡ numberAt m b at + 256 ^ m * numberAt n b (at + m)
+pub split-number : (m n : ℕ) (b : List ℕ) (at : ℕ)
+    → numberAt (m + n) b at ≡ numberAt m b at + 256 ^ m * numberAt n b (at + m)
 split-number zero n b at = rw (zero-add n, add-zero at) (unfold numberAt number in omega arith)
 split-number (suc m) n b at =
     ap (λ k. numberAt k b at) (suc-add m n)
@@ -76,19 +87,22 @@ unfolding bytesOfWords
 word-placed at v b = written-placed at (v ∷ []) b ∙ ap (λ bs. placedAt at bs b) (append-nil (bytesOf 8 v))
 
 -- a word's lower half placed, and its upper half behind it, are the word written
-pub halves-placed : (at v : ℕ) (b x y : List ℕ) → at + 8 ≤ length b → x ≡ placedAt at (bytesOf 4 v) b → y ≡ placedAt (at + 4) (bytesOf 4 (v / 4294967296)) x
+pub halves-placed : (at v : ℕ) (b x y : List ℕ) → at + 8 ≤ length b → x ≡ placedAt at (bytesOf 4 v) b
+    → y ≡ placedAt (at + 4) (bytesOf 4 (v / 4294967296)) x
     → y ≡ writtenAt at (v ∷ []) b
 halves-placed at v b x y room low high =
     let four = length-bytesOf 4 v in
     high
-    ∙ place-rest at (bytesOf 4 v) (bytesOf 4 (v / 4294967296)) b x (writtenAt at (v ∷ []) b) (at + 4) (omega (arith, four)) low (omega (arith, four))
+    ∙ place-rest at (bytesOf 4 v) (bytesOf 4 (v / 4294967296)) b x (writtenAt at (v ∷ []) b) (at + 4)
+    (omega (arith, four)) low (omega (arith, four))
     (ap (λ bs. placedAt at bs b) (sym (split-bytes 4 4 v)) ∙ sym (word-placed at v b))
 
 -- words of two lists, one list after the other
 pub words-append : (n : ℕ) (ws vs : List ℕ) → bytesOfWords n (ws ++ vs) ≡ bytesOfWords n ws ++ bytesOfWords n vs
 unfolding bytesOfWords
 words-append n [] vs = refl
-words-append n (w ∷ ws) vs = ap (λ rest. bytesOf n w ++ rest) (words-append n ws vs) ∙ sym (append-assoc (bytesOf n w) (bytesOfWords n ws) (bytesOfWords n vs))
+words-append n (w ∷ ws) vs = ap (λ rest. bytesOf n w ++ rest) (words-append n ws vs)
+    ∙ sym (append-assoc (bytesOf n w) (bytesOfWords n ws) (bytesOfWords n vs))
 
 -- writing no words changes nothing
 pub write-none : (at : ℕ) (b : List ℕ) → writtenAt at [] b ≡ b
@@ -96,7 +110,8 @@ unfolding bytesOfWords
 write-none at b = written-placed at [] b ∙ place-none at b
 
 -- writing words behind words that have just been written
-pub write-more : (at : ℕ) (ws vs b : List ℕ) → at + 8 * length ws ≤ length b → writtenAt (at + 8 * length ws) vs (writtenAt at ws b) ≡ writtenAt at (ws ++ vs) b
+pub write-more : (at : ℕ) (ws vs b : List ℕ) → at + 8 * length ws ≤ length b
+    → writtenAt (at + 8 * length ws) vs (writtenAt at ws b) ≡ writtenAt at (ws ++ vs) b
 write-more at ws vs b h =
     let new = bytesOfWords 8 ws in
     let n = length-bytesOfWords 8 ws in
@@ -115,7 +130,8 @@ length-writtenAt at ws b h =
     omega (arith, length-append (take at b) (written ws (drop at b)), length-take-le at b (omega arith), length-written ws (drop at b) (omega arith), n)
 
 -- the bytes beyond words that have been written at a place are as they were
-pub beyond-kept : (at : ℕ) (ws b : List ℕ) → at + 8 * length ws ≤ length b → drop (at + 8 * length ws) (writtenAt at ws b) ≡ drop (at + 8 * length ws) b
+pub beyond-kept : (at : ℕ) (ws b : List ℕ) → at + 8 * length ws ≤ length b
+    → drop (at + 8 * length ws) (writtenAt at ws b) ≡ drop (at + 8 * length ws) b
 unfolding writtenAt
 beyond-kept at ws b room =
     sym (drop-drop (8 * length ws) at (take at b ++ written ws (drop at b)))
@@ -124,14 +140,16 @@ beyond-kept at ws b room =
     ∙ drop-drop (8 * length ws) at b
 
 -- words written behind words at the front are written there with them
-pub written-behind : (ws vs b x y : List ℕ) → 8 * length ws ≤ length b → x ≡ written ws b → y ≡ writtenAt (8 * length ws) vs x → y ≡ written (ws ++ vs) b
+pub written-behind : (ws vs b x y : List ℕ) → 8 * length ws ≤ length b → x ≡ written ws b
+    → y ≡ writtenAt (8 * length ws) vs x → y ≡ written (ws ++ vs) b
 unfolding writtenAt
 written-behind ws vs b x y room front behind =
     let more = write-more 0 ws vs b in
     behind ∙ ap (writtenAt (8 * length ws) vs) front ∙ (rw zero-add at more) room
 
 -- a buffer whose part from a place on was lent, and had words written at its front, has them at the place
-pub part-written : (at : ℕ) (ws b part : List ℕ) → part ≡ written ws (take (length b - at) (drop at b)) → putMid at (length b - at) b part ≡ writtenAt at ws b
+pub part-written : (at : ℕ) (ws b part : List ℕ) → part ≡ written ws (take (length b - at) (drop at b))
+    → putMid at (length b - at) b part ≡ writtenAt at ws b
 unfolding writtenAt
 part-written at ws b part put =
     let end : length (drop at b) ≤ length b - at = omega (arith, length-drop at b) in

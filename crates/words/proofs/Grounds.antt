@@ -12,7 +12,8 @@ use Rattle.words.specs.Grounds.{answered}
 use Rattle.words.proofs.Tests.{not-first, not-second}
 
 -- where 0 is answered, no ground applies (no ground has the number 0)
-pub none-applies : (gs : List (Bool × ℕ)) → any (λ g. eqb (g .1) 0) gs ≡ false → answered gs ≡ 0 → any (λ g. g .0) gs ≡ false
+pub none-applies : (gs : List (Bool × ℕ)) → any (λ g. eqb (g .1) 0) gs ≡ false → answered gs ≡ 0
+    → any (λ g. g .0) gs ≡ false
 unfolding any answered
 none-applies [] n e = refl
 none-applies (g ∷ gs) n e = by (g .0) e (none-applies gs (not-second (eqb (g .1) 0) (any (λ g. eqb (g .1) 0) gs) n))
@@ -21,7 +22,8 @@ none-applies (g ∷ gs) n e = by (g .0) e (none-applies gs (not-second (eqb (g .
     numbered : 0 < g .1
     numbered = omega (arith, eqb-false (g .1) 0 (not-first (eqb (g .1) 0) (any (λ g. eqb (g .1) 0) gs) n))
 
-    by : (t : Bool) → cond t (g .1) (answered gs) ≡ 0 → (answered gs ≡ 0 → any (λ g. g .0) gs ≡ false) → (t || any (λ g. g .0) gs) ≡ false
+    by : (t : Bool) → cond t (g .1) (answered gs) ≡ 0 → (answered gs ≡ 0 → any (λ g. g .0) gs ≡ false)
+        → (t || any (λ g. g .0) gs) ≡ false
     by true q later = absurd (omega (arith, numbered))
     by false q later = later q
 

@@ -2,7 +2,18 @@
 use Prim.Native.Nat.{ℕ, zero, suc, _+_, _*_, _≤_, _<_}
 use mathlib.Core.Path.{_≡_, refl, sym, ap, _∙_}
 use mathlib.Core.Logic.{⊎-elim}
-use mathlib.Core.List.{List, [], _∷_, _++_, map, List·Memᴰ, List·Memᴰ·head, List·Memᴰ·tail, List·Memᴰ·cases-cons, List·Memᴰ·not-nil}
+use mathlib.Core.List.{
+  List,
+  [],
+  _∷_,
+  _++_,
+  map,
+  List·Memᴰ,
+  List·Memᴰ·head,
+  List·Memᴰ·tail,
+  List·Memᴰ·cases-cons,
+  List·Memᴰ·not-nil,
+}
 use mathlib.Core.Bool.{Bool, true, false, _||_, false≢true}
 use native.Mathlib.Nat.{mul-le-mul-right}
 use native.Mathlib.Omega.{arith}
@@ -50,13 +61,16 @@ module _ {A : Type 0} where
   sum-plus f g (x ∷ xs) = omega (arith, sum-plus f g xs)
 
   -- a sum of numbers of at most so much each
-  sum-each : (f : A → ℕ) (most : ℕ) (xs : List A) → ((x : A) → List·Memᴰ x xs → f x ≤ most) → sum f xs ≤ length xs * most
+  sum-each : (f : A → ℕ) (most : ℕ) (xs : List A) → ((x : A) → List·Memᴰ x xs → f x ≤ most)
+      → sum f xs ≤ length xs * most
   unfolding sum
   sum-each f most [] h = omega arith
-  sum-each f most (x ∷ xs) h = omega (arith, h x (List·Memᴰ·head refl), sum-each f most xs (λ y m. h y (List·Memᴰ·tail m)))
+  sum-each f most (x ∷ xs) h =
+      omega (arith, h x (List·Memᴰ·head refl), sum-each f most xs (λ y m. h y (List·Memᴰ·tail m)))
 
   -- and of so many of them or fewer
-  pub sum-most : (f : A → ℕ) (most many : ℕ) (xs : List A) → length xs ≤ many → ((x : A) → List·Memᴰ x xs → f x ≤ most) → sum f xs ≤ many * most
+  pub sum-most : (f : A → ℕ) (most many : ℕ) (xs : List A) → length xs ≤ many → ((x : A) → List·Memᴰ x xs → f x ≤ most)
+      → sum f xs ≤ many * most
   sum-most f most many xs few each = omega (arith, sum-each f most xs each, mul-le-mul-right most few)
 
   -- sums of figures that agree on the members
@@ -90,7 +104,8 @@ module _ {A : Type 0} {left : List A} where
   sum-start f start = let here = ap (sum f) start in omega (arith, here)
 
   -- what is added so far and what is left to add, when the next member's share is added
-  pub sum-turn : (f : A → ℕ) (so all share : ℕ) {x : A} {rest : List A} → left ≡ x ∷ rest → so + sum f left ≡ all → share ≡ f x → so + share + sum f rest ≡ all
+  pub sum-turn : (f : A → ℕ) (so all share : ℕ) {x : A} {rest : List A} → left ≡ x ∷ rest → so + sum f left ≡ all
+      → share ≡ f x → so + share + sum f rest ≡ all
   unfolding sum
   sum-turn f so all share turn adds e = let here = ap (sum f) turn in omega (arith, here, adds, e)
 
@@ -100,7 +115,8 @@ module _ {A : Type 0} {left : List A} where
   sum-end f so all none adds = let here = ap (sum f) none in omega (arith, here, adds)
 
   -- whether one of what is left passes is what the next member tells, or the rest
-  pub any-turn : (p : A → Bool) (told : Bool) {whole : Bool} {x : A} {rest : List A} → whole ≡ any p left → left ≡ x ∷ rest → p x ≡ told → whole ≡ (told || any p rest)
+  pub any-turn : (p : A → Bool) (told : Bool) {whole : Bool} {x : A} {rest : List A} → whole ≡ any p left
+      → left ≡ x ∷ rest → p x ≡ told → whole ≡ (told || any p rest)
   unfolding any
   any-turn p told {whole} {x} {rest} asks turn e = asks ∙ ap (any p) turn ∙ ap (λ t. t || any p rest) e
 
@@ -114,7 +130,8 @@ module _ {A : Type 0} {left : List A} where
   none-start p start none = sym (ap (any p) start) ∙ none
 
   -- neither the next nor a later one
-  pub none-turn : (p : A → Bool) {x : A} {rest : List A} → left ≡ x ∷ rest → any p left ≡ false → (p x ≡ false) × (any p rest ≡ false)
+  pub none-turn : (p : A → Bool) {x : A} {rest : List A} → left ≡ x ∷ rest → any p left ≡ false
+      → (p x ≡ false) × (any p rest ≡ false)
   none-turn p {x} {rest} turn none =
       let both = sym (any-turn p (p x) refl turn refl) ∙ none in
       (not-first (p x) (any p rest) both, not-second (p x) (any p rest) both)
@@ -124,7 +141,8 @@ pub found-member : (i : ℕ) (xs : List ℕ) → any (λ x. eqb x i) xs ≡ true
 unfolding any
 found-member i [] e = absurd (false≢true e)
 found-member i (x ∷ xs) e =
-    ⊎-elim (λ q. List·Memᴰ·head (sym (eqb-true x i q))) (λ q. List·Memᴰ·tail (found-member i xs q)) (either (eqb x i) (any (λ x. eqb x i) xs) e)
+    ⊎-elim (λ q. List·Memᴰ·head (sym (eqb-true x i q))) (λ q. List·Memᴰ·tail (found-member i xs q))
+    (either (eqb x i) (any (λ x. eqb x i) xs) e)
 
 -- where numbers rise, each is above the one before, and the later ones rise
 pub rises-next : (last x : ℕ) (xs : List ℕ) → risesAbove last (x ∷ xs) ≡ true → (last < x) × (risesAbove x xs ≡ true)
@@ -148,7 +166,8 @@ rises-from-zero (x ∷ xs) z e =
 -- a member of numbers that rise is above what they rise from
 pub member-above : (last : ℕ) {x : ℕ} {xs : List ℕ} → List·Memᴰ x xs → risesAbove last xs ≡ true → last < x
 member-above last (List·Memᴰ·head {x = y} {xs = xs} q) e = omega (arith, q, rises-next last y xs e .0)
-member-above last (List·Memᴰ·tail {x = y} {xs = xs} m) e = let up = rises-next last y xs e in omega (arith, up .0, member-above y m (up .1))
+member-above last (List·Memᴰ·tail {x = y} {xs = xs} m) e =
+    let up = rises-next last y xs e in omega (arith, up .0, member-above y m (up .1))
 
 -- so a number at or below that is not among them
 pub not-among : (last r : ℕ) (xs : List ℕ) → risesAbove last xs ≡ true → r ≤ last → any (λ x. eqb x r) xs ≡ false

@@ -18,10 +18,12 @@ place-none at b = rw (append-nil, add-zero) (take-append-drop at b)
 -- a byte stored at a place is placed there
 pub place-byte : (at v : ℕ) (b : List ℕ) → at < length b → set b at v ≡ placedAt at (v ∷ []) b
 unfolding placedAt
-place-byte at v b h = set-split b at v h ∙ sym (append-snoc (take at b) v (drop (suc at) b)) ∙ ap (λ k. take at b ++ (v ∷ []) ++ drop k b) (sym (add-one at))
+place-byte at v b h = set-split b at v h ∙ sym (append-snoc (take at b) v (drop (suc at) b))
+    ∙ ap (λ k. take at b ++ (v ∷ []) ++ drop k b) (sym (add-one at))
 
 -- bytes placed behind bytes that have just been placed
-pub place-more : (at : ℕ) (xs ys b : List ℕ) → at + length xs ≤ length b → placedAt (at + length xs) ys (placedAt at xs b) ≡ placedAt at (xs ++ ys) b
+pub place-more : (at : ℕ) (xs ys b : List ℕ) → at + length xs ≤ length b
+    → placedAt (at + length xs) ys (placedAt at xs b) ≡ placedAt at (xs ++ ys) b
 unfolding placedAt
 place-more at xs ys b h =
     let end = at + length xs in
@@ -35,7 +37,8 @@ place-more at xs ys b h =
     ∙ ap (λ p. p ++ drop (at + length (xs ++ ys)) b) (append-assoc (take at b) xs ys)
 
 -- two writers one after the other: the bytes of both, and the place behind them
-pub then-place : (at : ℕ) (xs ys b x y : List ℕ) (m n : ℕ) → at + length xs ≤ length b → x ≡ placedAt at xs b → m ≡ at + length xs
+pub then-place : (at : ℕ) (xs ys b x y : List ℕ) (m n : ℕ) → at + length xs ≤ length b → x ≡ placedAt at xs b
+    → m ≡ at + length xs
     → y ≡ placedAt m ys x → n ≡ m + length ys → (y ≡ placedAt at (xs ++ ys) b) × (n ≡ at + length (xs ++ ys))
 then-place at xs ys b x y m n h e p f q = (
   f ∙ ap₂ (λ k l. placedAt k ys l) p e ∙ place-more at xs ys b h,
@@ -43,12 +46,14 @@ then-place at xs ys b x y m n h e p f q = (
 )
 
 -- what is left to place, once its first part is placed
-pub place-rest : (at : ℕ) (xs ys b x goal : List ℕ) (m : ℕ) → at + length xs ≤ length b → x ≡ placedAt at xs b → m ≡ at + length xs
+pub place-rest : (at : ℕ) (xs ys b x goal : List ℕ) (m : ℕ) → at + length xs ≤ length b → x ≡ placedAt at xs b
+    → m ≡ at + length xs
     → placedAt at (xs ++ ys) b ≡ goal → placedAt m ys x ≡ goal
 place-rest at xs ys b x goal m h e p left = ap₂ (λ k l. placedAt k ys l) p e ∙ place-more at xs ys b h ∙ left
 
 -- bytes placed in front of a byte that has been stored
-pub place-last : (at i d : ℕ) (xs b : List ℕ) → i ≡ at + length xs → i < length b → placedAt at xs (set b i d) ≡ placedAt at (xs ++ d ∷ []) b
+pub place-last : (at i d : ℕ) (xs b : List ℕ) → i ≡ at + length xs → i < length b
+    → placedAt at xs (set b i d) ≡ placedAt at (xs ++ d ∷ []) b
 unfolding placedAt
 place-last at i d xs b e h =
     let front : length (take i b) ≡ i = length-take-le i b (omega arith) in
@@ -59,8 +64,10 @@ place-last at i d xs b e h =
     ∙ ap₂ (λ p k. p ++ drop k b) (append-assoc (take at b) xs (d ∷ [])) far
 
 -- three writers one after the other
-pub three-placed : (at : ℕ) (xs ys zs b x y z : List ℕ) (k m n : ℕ) → at + length xs + length ys ≤ length b → length x ≡ length b
-    → x ≡ placedAt at xs b → k ≡ at + length xs → y ≡ placedAt k ys x → m ≡ k + length ys → z ≡ placedAt m zs y → n ≡ m + length zs
+pub three-placed : (at : ℕ) (xs ys zs b x y z : List ℕ) (k m n : ℕ) → at + length xs + length ys ≤ length b
+    → length x ≡ length b
+    → x ≡ placedAt at xs b → k ≡ at + length xs → y ≡ placedAt k ys x → m ≡ k + length ys → z ≡ placedAt m zs y
+    → n ≡ m + length zs
     → (z ≡ placedAt at (xs ++ (ys ++ zs)) b) × (n ≡ at + length (xs ++ (ys ++ zs)))
 three-placed at xs ys zs b x y z k m n room kept e p f q g r =
     let later = then-place k ys zs x y z m n (omega arith) f q g r in
@@ -76,32 +83,42 @@ pub place-end : (at : ℕ) (rest b goal : List ℕ) → rest ≡ [] → placedAt
 place-end at rest b goal none left = sym (place-none at b) ∙ ap (λ l. placedAt at l b) (sym none) ∙ left
 
 -- one turn of writing a list, member by member: the bytes of those from the next on are left
-pub place-turn : {A : Type 0} (write : List A → List ℕ) (one : A → List ℕ) → ((x : A) (xs : List A) → write (x ∷ xs) ≡ one x ++ write xs)
-    → (at i next : ℕ) (xs : List A) (d : A) (b x goal : List ℕ) → placedAt at (write (drop i xs)) b ≡ goal → i < length xs → at + length (one (getD xs i d)) ≤ length b
-    → x ≡ placedAt at (one (getD xs i d)) b → next ≡ at + length (one (getD xs i d)) → placedAt next (write (drop (i + 1) xs)) x ≡ goal
+pub place-turn : {A : Type 0} (write : List A → List ℕ) (one : A → List ℕ)
+    → ((x : A) (xs : List A) → write (x ∷ xs) ≡ one x ++ write xs)
+    → (at i next : ℕ) (xs : List A) (d : A) (b x goal : List ℕ) → placedAt at (write (drop i xs)) b ≡ goal
+    → i < length xs → at + length (one (getD xs i d)) ≤ length b
+    → x ≡ placedAt at (one (getD xs i d)) b → next ≡ at + length (one (getD xs i d))
+    → placedAt next (write (drop (i + 1) xs)) x ≡ goal
 place-turn write one first at i next xs d b x goal left more room put behind =
     let here = ap write (drop-cons xs i d more) ∙ first (getD xs i d) (drop (suc i) xs) in
     rw add-one (place-rest at (one (getD xs i d)) (write (drop (suc i) xs)) b x goal next room put behind (ap (λ l. placedAt at l b) (sym here) ∙ left))
 
 -- one turn of copying a text, byte by byte
-pub copy-turn : (at i : ℕ) (s b goal : List ℕ) → placedAt (at + i) (drop i s) b ≡ goal → i < length s → at + i < length b
+pub copy-turn : (at i : ℕ) (s b goal : List ℕ) → placedAt (at + i) (drop i s) b ≡ goal → i < length s
+    → at + i < length b
     → placedAt (at + (i + 1)) (drop (i + 1) s) (set b (at + i) (getD s i 0)) ≡ goal
 copy-turn at i s b goal left more room =
-    place-turn (λ s. s) (λ x. x ∷ []) (λ x xs. refl) (at + i) i (at + (i + 1)) s 0 b _ goal left more (omega arith) (place-byte (at + i) (getD s i 0) b room) (omega arith)
+    place-turn (λ s. s) (λ x. x ∷ []) (λ x xs. refl) (at + i) i (at + (i + 1)) s 0 b _ goal left more (omega arith)
+    (place-byte (at + i) (getD s i 0) b room) (omega arith)
 
 -- where all of it is copied, nothing is left
 pub copy-all : (at i : ℕ) (s b goal : List ℕ) → placedAt (at + i) (drop i s) b ≡ goal → length s ≤ i → b ≡ goal
 copy-all at i s b goal left h = place-end (at + i) (drop i s) b goal (drop-of-length-le s h) left
 
 -- one turn of writing words of n bytes
-pub words-turn : (n at i next : ℕ) (ws b x goal : List ℕ) → placedAt at (bytesOfWords n (drop i ws)) b ≡ goal → i < length ws → at + n ≤ length b
-    → x ≡ placedAt at (bytesOf n (getD ws i 0)) b → next ≡ at + n → placedAt next (bytesOfWords n (drop (i + 1) ws)) x ≡ goal
+pub words-turn : (n at i next : ℕ) (ws b x goal : List ℕ) → placedAt at (bytesOfWords n (drop i ws)) b ≡ goal
+    → i < length ws → at + n ≤ length b
+    → x ≡ placedAt at (bytesOf n (getD ws i 0)) b → next ≡ at + n
+    → placedAt next (bytesOfWords n (drop (i + 1) ws)) x ≡ goal
 unfolding bytesOfWords
 words-turn n at i next ws b x goal left more room put behind =
     let long = length-bytesOf n (getD ws i 0) in
-    place-turn (bytesOfWords n) (bytesOf n) (λ w ws. refl) at i next ws 0 b x goal left more (omega (arith, long)) put (omega (arith, long))
+    place-turn (bytesOfWords n) (bytesOf n) (λ w ws. refl) at i next ws 0 b x goal left more (omega (arith, long)) put
+    (omega (arith, long))
 
 -- where all words are written, nothing is left
-pub words-all : (n at i : ℕ) (ws b goal : List ℕ) → placedAt at (bytesOfWords n (drop i ws)) b ≡ goal → length ws ≤ i → b ≡ goal
+pub words-all : (n at i : ℕ) (ws b goal : List ℕ) → placedAt at (bytesOfWords n (drop i ws)) b ≡ goal → length ws ≤ i
+    → b ≡ goal
 unfolding bytesOfWords
-words-all n at i ws b goal left h = place-end at (bytesOfWords n (drop i ws)) b goal (ap (bytesOfWords n) (drop-of-length-le ws h)) left
+words-all n at i ws b goal left h =
+    place-end at (bytesOfWords n (drop i ws)) b goal (ap (bytesOfWords n) (drop-of-length-le ws h)) left

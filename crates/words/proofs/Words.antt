@@ -2,7 +2,18 @@
 use Prim.Native.Nat.{ℕ, zero, suc, _+_, _*_, _/_, _^_, _<_, _≤_}
 use mathlib.Core.Path.{_≡_, refl, sym, ap, ap₂, _∙_}
 use mathlib.Core.Logic.{⊎-elim}
-use mathlib.Core.List.{List, [], _∷_, _++_, append-assoc, List·Memᴰ, List·Memᴰ·head, List·Memᴰ·tail, List·Memᴰ·cases-cons, List·Memᴰ·not-nil}
+use mathlib.Core.List.{
+  List,
+  [],
+  _∷_,
+  _++_,
+  append-assoc,
+  List·Memᴰ,
+  List·Memᴰ·head,
+  List·Memᴰ·tail,
+  List·Memᴰ·cases-cons,
+  List·Memᴰ·not-nil,
+}
 use native.Mathlib.Omega.{arith}
 use lib.ListN.{length, drop, getD, length-append, length-drop}
 use lib.Seq.{getD-drop, drop-at, drop-drop}
@@ -46,7 +57,8 @@ module _ {A : Type 0} (size : ℕ) (read : List ℕ → A) where
   length-entries (suc n) b = ap suc (length-entries n (drop size b))
 
   -- entry i of a table is read where it begins
-  pub entry-at : (n : ℕ) (b : List ℕ) (i : ℕ) (d : A) → i < n → getD (entries size read n b) i d ≡ read (drop (size * i) b)
+  pub entry-at : (n : ℕ) (b : List ℕ) (i : ℕ) (d : A) → i < n
+      → getD (entries size read n b) i d ≡ read (drop (size * i) b)
   unfolding entries
   entry-at zero b i d h = absurd (omega arith)
   entry-at (suc n) b zero d h = let front : size * 0 ≡ 0 = omega arith in rw front
@@ -55,11 +67,13 @@ module _ {A : Type 0} (size : ℕ) (read : List ℕ → A) where
       entry-at n (drop size b) i d (omega arith) ∙ ap read (drop-drop (size * i) size b ∙ ap (λ k. drop k b) next)
 
   -- what holds of each entry that is read from bytes holds of each member of a table
-  pub entries-all : (P : A → Type 0) → ((b : List ℕ) → Bytes b → P (read b)) → (n : ℕ) (b : List ℕ) → Bytes b → (x : A) → List·Memᴰ x (entries size read n b) → P x
+  pub entries-all : (P : A → Type 0) → ((b : List ℕ) → Bytes b → P (read b)) → (n : ℕ) (b : List ℕ) → Bytes b → (x : A)
+      → List·Memᴰ x (entries size read n b) → P x
   unfolding entries
   entries-all P each zero b bytes x m = absurd (List·Memᴰ·not-nil m)
   entries-all P each (suc n) b bytes x m =
-      ⊎-elim (λ e. rw e (each b bytes)) (entries-all P each n (drop size b) (drop-bytes size b bytes) x) (List·Memᴰ·cases-cons m)
+      ⊎-elim (λ e. rw e (each b bytes)) (entries-all P each n (drop size b) (drop-bytes size b bytes) x)
+      (List·Memᴰ·cases-cons m)
 
   -- a table whose entries have been written one after the other is read back, where each fits
   pub entries-back : (write : List A → List ℕ) (rest : List ℕ) (Fits : A → Type 0)
@@ -76,7 +90,8 @@ module _ {A : Type 0} (size : ℕ) (read : List ℕ → A) where
 pub length-bytesOfWords : (n : ℕ) (ws : List ℕ) → length (bytesOfWords n ws) ≡ n * length ws
 unfolding bytesOfWords
 length-bytesOfWords n [] = omega arith
-length-bytesOfWords n (w ∷ ws) = omega (arith, length-append (bytesOf n w) (bytesOfWords n ws), length-bytesOf n w, length-bytesOfWords n ws)
+length-bytesOfWords n (w ∷ ws) =
+    omega (arith, length-append (bytesOf n w) (bytesOfWords n ws), length-bytesOf n w, length-bytesOfWords n ws)
 
 -- writing words where there is room for them keeps a buffer's length
 pub length-written : (ws b : List ℕ) → 8 * length ws ≤ length b → length (written ws b) ≡ length b
@@ -92,18 +107,23 @@ beyond-written ws b = drop-at (bytesOfWords 8 ws) (drop (8 * length ws) b) (8 * 
 -- the first of words of n bytes each that have been written is read back, where it fits
 pub first-word : (n w : ℕ) (ws rest : List ℕ) → w < 256 ^ n → number n (bytesOfWords n (w ∷ ws) ++ rest) ≡ w
 unfolding bytesOfWords
-first-word n w ws rest h = rw (append-assoc (bytesOf n w) (bytesOfWords n ws) rest) (number-bytesOf n w (bytesOfWords n ws ++ rest) h)
+first-word n w ws rest h =
+    rw (append-assoc (bytesOf n w) (bytesOfWords n ws) rest) (number-bytesOf n w (bytesOfWords n ws ++ rest) h)
 
 -- behind the bytes of the first word stand those of the others
 pub next-words : (n w : ℕ) (ws rest : List ℕ) → drop n (bytesOfWords n (w ∷ ws) ++ rest) ≡ bytesOfWords n ws ++ rest
 unfolding bytesOfWords
-next-words n w ws rest = rw (append-assoc (bytesOf n w) (bytesOfWords n ws) rest) (drop-at (bytesOf n w) (bytesOfWords n ws ++ rest) n (length-bytesOf n w))
+next-words n w ws rest = rw (append-assoc (bytesOf n w) (bytesOfWords n ws) rest)
+    (drop-at (bytesOf n w) (bytesOfWords n ws ++ rest) n (length-bytesOf n w))
 
 -- words of n bytes each that have been written are read back, where they fit
-pub words-back : (n : ℕ) (ws rest : List ℕ) → ((w : ℕ) → List·Memᴰ w ws → w < 256 ^ n) → entries n (number n) (length ws) (bytesOfWords n ws ++ rest) ≡ ws
-words-back n ws rest = entries-back n (number n) (bytesOfWords n) rest (λ w. w < 256 ^ n) (λ w vs. first-word n w vs rest) (λ w vs. next-words n w vs rest) ws
+pub words-back : (n : ℕ) (ws rest : List ℕ) → ((w : ℕ) → List·Memᴰ w ws → w < 256 ^ n)
+    → entries n (number n) (length ws) (bytesOfWords n ws ++ rest) ≡ ws
+words-back n ws rest = entries-back n (number n) (bytesOfWords n) rest (λ w. w < 256 ^ n)
+    (λ w vs. first-word n w vs rest) (λ w vs. next-words n w vs rest) ws
 
 -- each of them by itself is read back too
 pub word-back : (n : ℕ) (ws rest : List ℕ) (k : ℕ) → ((w : ℕ) → List·Memᴰ w ws → w < 256 ^ n) → k < length ws
     → number n (drop (n * k) (bytesOfWords n ws ++ rest)) ≡ getD ws k 0
-word-back n ws rest k fit h = sym (entry-at n (number n) (length ws) (bytesOfWords n ws ++ rest) k 0 h) ∙ ap (λ l. getD l k 0) (words-back n ws rest fit)
+word-back n ws rest k fit h = sym (entry-at n (number n) (length ws) (bytesOfWords n ws ++ rest) k 0 h)
+    ∙ ap (λ l. getD l k 0) (words-back n ws rest fit)

@@ -8,7 +8,17 @@ use borrow.Author.Tests.{eqb-true}
 use Rattle.words.specs.Grounds.{answered}
 use Rattle.settling.specs.Settling.{settlingGrounds, SettlingAnswer, settling}
 use Rattle.settling.proofs.SettlingAnswers.{settledAnswer, settling-accepts, settling-refuses}
-use Rattle.year.specs.Year.{Call, intervalBy, AnyCall, Year, afterAnswer, afterCall, afterCalls, callsOf, afterAll}
+use Rattle.year.specs.Year.{
+  Call,
+  intervalBy,
+  AnyCall,
+  Year,
+  afterAnswer,
+  afterCall,
+  afterCalls,
+  callsOf,
+  afterAll,
+}
 
 -- a call leaves the ledger that it answers with
 pub answer-leaves : (y : Year) (c : Call) (a : SettlingAnswer) → afterAnswer y c a .ledger ≡ a .ledger
@@ -48,4 +58,5 @@ module _ (P : Year → Type 0)
   pub after-all : (y : Year) (calls : List AnyCall) → P y → P (afterAll y calls)
   unfolding afterAll
   after-all y [] k = k
-  after-all y (c ∷ calls) k = after-all (afterCalls y (callsOf (y .ledger) c)) calls (after-calls y (callsOf (y .ledger) c) k)
+  after-all y (c ∷ calls) k =
+      after-all (afterCalls y (callsOf (y .ledger) c)) calls (after-calls y (callsOf (y .ledger) c) k)

@@ -87,7 +87,8 @@ never-refused-on-six block ledger bytes e calls = kept-all block ledger bytes e 
 -- words that fit are held by a buffer that they are written to
 written-held : (ws b : List ℕ) → Fits ws → Holds ws b (written ws b)
 unfolding wordsIn word64 numberAt written
-written-held ws b fit = record { read-back = words-back 8 ws (drop (8 * length ws) b) fit; beyond = beyond-written ws b }
+written-held ws b fit =
+    record { read-back = words-back 8 ws (drop (8 * length ws) b) fit; beyond = beyond-written ws b }
 
 -- an accepted opening leaves a ledger whose words are read back, with the bytes beyond as they were
 pub opening-reads-back : OpeningReadsBack

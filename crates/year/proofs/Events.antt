@@ -14,8 +14,33 @@ use Rattle.stream.specs.Stream.{End, Next, nextBlock}
 use Rattle.reading.specs.Interval.{headerOf}
 use Rattle.settling.specs.Settling.{resultBytes, SettlingAnswer, settling}
 use Rattle.settling.proofs.Accepted.{accepted}
-use Rattle.event.specs.Event.{mostLength, lengthRunsPast, countBytes, countTooShort, Settled, noFile, oneFile, turn, settledFiles, EventAnswer, event}
-use Rattle.year.specs.Year.{Call, Year, newYear, afterCall, afterCalls, callsNext, callsOver, EventCall, eventCalls, resultsLeft, resultsNext, resultsPlaced}
+use Rattle.event.specs.Event.{
+  mostLength,
+  lengthRunsPast,
+  countBytes,
+  countTooShort,
+  Settled,
+  noFile,
+  oneFile,
+  turn,
+  settledFiles,
+  EventAnswer,
+  event,
+}
+use Rattle.year.specs.Year.{
+  Call,
+  Year,
+  newYear,
+  afterCall,
+  afterCalls,
+  callsNext,
+  callsOver,
+  EventCall,
+  eventCalls,
+  resultsLeft,
+  resultsNext,
+  resultsPlaced,
+}
 use Rattle.year.specs.Claims.{SettlingRefusals, IsCalls, EventIsCalls}
 use Rattle.year.proofs.Calls.{answer-leaves}
 use Rattle.year.proofs.Claims.{settling-refusals}
@@ -27,7 +52,8 @@ record FilesAre (y : Year) (ledger files : List ℕ) (s : Settled) (calls : List
   results : resultsPlaced (s .files) files (s .result) ≡ resultsLeft ledger calls
 
 -- where no file is settled, no call is made
-none-are : (y : Year) (ledger files result : List ℕ) (ground : ℕ) → y .ledger ≡ ledger → FilesAre y ledger files (noFile ground ledger result) []
+none-are : (y : Year) (ledger files result : List ℕ) (ground : ℕ) → y .ledger ≡ ledger
+    → FilesAre y ledger files (noFile ground ledger result) []
 unfolding noFile afterCalls resultsLeft resultsPlaced
 none-are y ledger files result ground is = record { leaves = sym is; counts = refl; results = refl }
 
@@ -51,7 +77,8 @@ module _ (y : Year) (ledger file rest result : List ℕ) (is : y .ledger ≡ led
   call-leaves = answer-leaves y call (settling (y .ledger) file result) ∙ ap (λ l. settling l file result .ledger) is
 
   -- where it is refused, nothing more is done
-  refused-is : (files : List ℕ) → eqb (a .ground) 0 ≡ false → FilesAre y ledger files (noFile (a .ground) (a .ledger) (a .result)) (call ∷ [])
+  refused-is : (files : List ℕ) → eqb (a .ground) 0 ≡ false
+      → FilesAre y ledger files (noFile (a .ground) (a .ledger) (a .result)) (call ∷ [])
   unfolding noFile afterCalls resultsLeft resultsPlaced
   refused-is files off = record {
     leaves = sym call-leaves;
@@ -66,8 +93,10 @@ module _ (y : Year) (ledger file rest result : List ℕ) (is : y .ledger ≡ led
       length-take-le n (a .result) (omega (arith, accepted ledger file result none .room, settling-refusals ledger file result .lengths-kept .1))
 
   -- and stands before what the later files leave
-  settled-is : (files : List ℕ) (later : Settled) (calls : List Call) → nextBlock mostLength files ≡ Next.block file rest → eqb (a .ground) 0 ≡ true
-      → FilesAre (afterCall y call) (a .ledger) rest later calls → FilesAre y ledger files (oneFile (take n (a .result)) later) (call ∷ calls)
+  settled-is : (files : List ℕ) (later : Settled) (calls : List Call)
+      → nextBlock mostLength files ≡ Next.block file rest → eqb (a .ground) 0 ≡ true
+      → FilesAre (afterCall y call) (a .ledger) rest later calls
+      → FilesAre y ledger files (oneFile (take n (a .result)) later) (call ∷ calls)
   unfolding oneFile afterCalls resultsLeft resultsPlaced resultsNext
   settled-is files later calls next on below =
       let bytes = has-bytes (eqb-true (a .ground) 0 on) in
@@ -90,20 +119,27 @@ Are budget = (y : Year) (ledger files result : List ℕ) → y .ledger ≡ ledge
     → FilesAre y ledger files (settledFiles budget ledger files result) (callsOver budget ledger files result)
 
 -- from what comes next on
-next-are : (budget : ℕ) → Are budget → (y : Year) (ledger files result : List ℕ) → y .ledger ≡ ledger → (n : Next) → nextBlock mostLength files ≡ n
-    → FilesAre y ledger files (turn (settledFiles budget) ledger result n) (callsNext (callsOver budget) ledger result n)
+next-are : (budget : ℕ) → Are budget → (y : Year) (ledger files result : List ℕ) → y .ledger ≡ ledger → (n : Next)
+    → nextBlock mostLength files ≡ n
+    → FilesAre y ledger files (turn (settledFiles budget) ledger result n)
+    (callsNext (callsOver budget) ledger result n)
 unfolding turn callsNext
 next-are budget below y ledger files result is (Next.stop End.ended) next = none-are y ledger files result 0 is
-next-are budget below y ledger files result is (Next.stop End.cut) next = none-are y ledger files result lengthRunsPast is
-next-are budget below y ledger files result is (Next.stop End.overLong) next = none-are y ledger files result lengthRunsPast is
-next-are budget below y ledger files result is (Next.block file rest) next = by (eqb (settling ledger file result .ground) 0) refl
+next-are budget below y ledger files result is (Next.stop End.cut) next =
+    none-are y ledger files result lengthRunsPast is
+next-are budget below y ledger files result is (Next.stop End.overLong) next =
+    none-are y ledger files result lengthRunsPast is
+next-are budget below y ledger files result is (Next.block file rest) next =
+    by (eqb (settling ledger file result .ground) 0) refl
   where
     later : Settled
     later =
-        settledFiles budget (settling ledger file result .ledger) rest (drop (resultBytes (headerOf file .rowCount)) (settling ledger file result .result))
+        settledFiles budget (settling ledger file result .ledger) rest
+        (drop (resultBytes (headerOf file .rowCount)) (settling ledger file result .result))
 
     calls : List Call
-    calls = callsOver budget (settling ledger file result .ledger) rest (drop (resultBytes (headerOf file .rowCount)) (settling ledger file result .result))
+    calls = callsOver budget (settling ledger file result .ledger) rest
+        (drop (resultBytes (headerOf file .rowCount)) (settling ledger file result .result))
 
     by : (t : Bool) → eqb (settling ledger file result .ground) 0 ≡ t
         → FilesAre y ledger files
@@ -113,7 +149,8 @@ next-are budget below y ledger files result is (Next.block file rest) next = by 
     by true on =
         settled-is y ledger file rest result is files later calls next on
         (below (afterCall y (record { file = file; result = result })) (settling ledger file result .ledger) rest
-        (drop (resultBytes (headerOf file .rowCount)) (settling ledger file result .result)) (call-leaves y ledger file rest result is))
+        (drop (resultBytes (headerOf file .rowCount)) (settling ledger file result .result))
+        (call-leaves y ledger file rest result is))
     by false off = refused-is y ledger file rest result is files off
 
 -- with a budget of any turns
@@ -134,7 +171,8 @@ short-is ledger e short = record {
 }
 
 -- one with room makes those of its files
-long-is : (ledger : List ℕ) (e : EventCall) (s : Settled) (calls : List Call) → ((y : Year) → y .ledger ≡ ledger → FilesAre y ledger (e .files) s calls)
+long-is : (ledger : List ℕ) (e : EventCall) (s : Settled) (calls : List Call)
+    → ((y : Year) → y .ledger ≡ ledger → FilesAre y ledger (e .files) s calls)
     → IsCalls ledger e (record { ground = s .ground; ledger = s .ledger; result = s .result; count = written (s .files ∷ []) (e .count) }) calls
 unfolding newYear
 long-is ledger e s calls are =
@@ -162,4 +200,5 @@ event-is-calls ledger e = by (ltb (length (e .count)) countBytes) refl
 
     by : (t : Bool) → ltb (length (e .count)) countBytes ≡ t → IsCalls ledger e (answer t) (cond t [] calls)
     by true short = short-is ledger e short
-    by false long = long-is ledger e s calls (λ y is. files-are (length (e .files) + 1) y ledger (e .files) (e .result) is)
+    by false long =
+        long-is ledger e s calls (λ y is. files-are (length (e .files) + 1) y ledger (e .files) (e .result) is)

@@ -91,7 +91,8 @@ module _ (ledger file : List ℕ) where
 
   -- the interval as it is given
   abbrev pub newInterval : GivenInterval
-  newInterval = record { charges = charges v; credits = credits v; carried = carriedOn v; bonus = totalBonus v; rows = new }
+  newInterval =
+      record { charges = charges v; credits = credits v; carried = carriedOn v; bonus = totalBonus v; rows = new }
 
   -- its charges, credits and total bonus are the sums over its rows
   pub new-sums : SummedOverRows newInterval

@@ -115,7 +115,8 @@ ledger-back l b f =
     (f .count) in
     λ i. record {
       terms = record {
-        netCone = first-word 8 (t .netCone) (t .days ∷ l .earliest ∷ l .carried ∷ n ∷ 8 ∷ t .year ∷ ws) rest (f .netCone) i;
+        netCone =
+            first-word 8 (t .netCone) (t .days ∷ l .earliest ∷ l .carried ∷ n ∷ 8 ∷ t .year ∷ ws) rest (f .netCone) i;
         days = first-word 8 (t .days) (l .earliest ∷ l .carried ∷ n ∷ 8 ∷ t .year ∷ ws) rest (f .days) i;
         year = first-word 8 (t .year) ws rest (f .year) i;
       };
@@ -151,7 +152,8 @@ laid l b h =
     let n = length (l .accounts) in
     let t = l .terms in
     record {
-      format = first-word 8 1 (t .netCone ∷ t .days ∷ l .earliest ∷ l .carried ∷ n ∷ 8 ∷ t .year ∷ ws) rest (omega arith);
+      format =
+          first-word 8 1 (t .netCone ∷ t .days ∷ l .earliest ∷ l .carried ∷ n ∷ 8 ∷ t .year ∷ ws) rest (omega arith);
       count = first-word 8 n (8 ∷ t .year ∷ ws) rest h;
       offset = first-word 8 8 (t .year ∷ ws) rest (omega arith);
     }

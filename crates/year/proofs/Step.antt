@@ -198,7 +198,8 @@ module _ (block : List ℕ) (bytes : Bytes block) (good : GoodBlock block) (y : 
     closes = new-closes;
     limited = new-limited;
     known = λ g m. ⊎-elim (k .books .known g) (new-known g) (List·Memᴰ·append-cases (y .given) m);
-    committed = λ g m. ⊎-elim (k .books .committed g) (new-committed (y .ledger) (c .file) s g) (List·Memᴰ·append-cases (y .given) m);
+    committed = λ g m. ⊎-elim (k .books .committed g) (new-committed (y .ledger) (c .file) s g)
+        (List·Memᴰ·append-cases (y .given) m);
   }
 
   -- where the new rows have bonus, the cents carried are fewer than the rows with bonus

@@ -1,4 +1,5 @@
--- `event::next_file` meets its contract. What is left is too short for a length, or for the file that the length announces, or is a whole file first.
+-- `event::next_file` meets its contract. What is left is too short for a length,
+-- or for the file that the length announces, or is a whole file first.
 use mathlib.Core.Path.{refl, _∙_, ap}
 use native.Mathlib.Omega.{arith}
 use Rattle.words.proofs.Ints.{never}
@@ -27,7 +28,8 @@ returns-2 c =
     let word = c .before in
     let s = word .before .before .before in
     record {
-      next = cut-file _ _ (s .pre) (word .number32 .result) (omega arith) (word .number32 .ensures .0) (word .number32 .ensures .1) (omega arith);
+      next = cut-file _ _ (s .pre) (word .number32 .result) (omega arith) (word .number32 .ensures .0)
+          (word .number32 .ensures .1) (omega arith);
       after-length = λ z. never z;
       ends-later = omega arith;
       within = omega arith;
@@ -42,7 +44,8 @@ returns-3 c =
     let word = c .before in
     let s = word .before .before .before in
     record {
-      next = whole-file _ _ (s .pre) (word .number32 .result) (omega arith) (word .number32 .ensures .0) (word .number32 .ensures .1) _ _ refl refl (omega arith);
+      next = whole-file _ _ (s .pre) (word .number32 .result) (omega arith) (word .number32 .ensures .0)
+          (word .number32 .ensures .1) _ _ refl refl (omega arith);
       after-length = λ z. omega arith;
       ends-later = omega arith;
       within = omega arith;

@@ -1,4 +1,5 @@
--- `event::settle_files` meets its contract. What is left to do after some files is an event of the rest of the files and of the result.
+-- `event::settle_files` meets its contract.
+-- What is left to do after some files is an event of the rest of the files and of the result.
 use Prim.Native.Nat.{_+_, _-_}
 use mathlib.Core.Path.{_≡_, refl}
 use native.Mathlib.Omega.{arith}
@@ -59,7 +60,8 @@ returns-2 c =
     let settle = c .before .before .before .before .before .before in
     let arm = settle .before .before .before .before in
     let next = arm .before .before in
-    going-refused (next .before .before .loop .inv .0) _ (next .next-file .ensures) (not-false _ (arm .if1 .left)) _ _ _ (settle .settle-next .ensures) (c .if2 .taken)
+    going-refused (next .before .before .loop .inv .0) _ (next .next-file .ensures) (not-false _ (arm .if1 .left)) _ _ _
+    (settle .settle-next .ensures) (c .if2 .taken)
 
 add-settled : tie.Need-add-settled Inv-loop μ-loop
 add-settled c = search needs
@@ -78,7 +80,8 @@ loop-again c =
     let arm = settle .before .before .before .before in
     let next = arm .before .before in
     let l = next .before .before .loop .inv in (
-      going-on (l .0) _ (next .next-file .ensures) (not-false _ (arm .if1 .left)) _ _ _ (settle .settle-next .ensures) (c .if2 .left),
+      going-on (l .0) _ (next .next-file .ensures) (not-false _ (arm .if1 .left)) _ _ _ (settle .settle-next .ensures)
+          (c .if2 .left),
       omega (arith, settle .settle-next .kept, l),
       omega (arith, settle .settle-next .kept, l),
     )

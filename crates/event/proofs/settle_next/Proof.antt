@@ -14,7 +14,8 @@ use Rattle.event.proofs.settle_next.Statement.{statement}
 use Rattle.event.proofs.settle_next.Tie as tie
 
 -- where no ground is answered, what settling accepted
-passed : (c : tie.Else1) → let start = c .before .before .before .before .before .before .before .before .before .before .before in
+passed : (c : tie.Else1) → let start =
+    c .before .before .before .before .before .before .before .before .before .before .before in
     Accepted (start .args .ledger .now) (start .args .file .now) (take (length (start .args .result .now) - start .args .filled) (drop (start .args .filled) (start .args .result .now)))
 passed c = accepted _ _ _ (sym (c .before .before .before .before .before .settle-file .ensures .0) ∙ c .if1 .left)
 
@@ -53,7 +54,8 @@ returns : tie.Need-returns
 returns c =
     let settle = c .before .before .before .before .before in
     let s = settle .before .before .before .before .before .before in
-    turn-taken _ _ (s .args .result .now) (s .args .filled) _ _ _ (s .pre) (settle .settle-file .ensures .0) (settle .settle-file .ensures .1 .0) (settle .settle-file .ensures .1 .1)
+    turn-taken _ _ (s .args .result .now) (s .args .filled) _ _ _ (s .pre) (settle .settle-file .ensures .0)
+    (settle .settle-file .ensures .1 .0) (settle .settle-file .ensures .1 .1)
     (omega (arith, settle .settle-file .kept)) (λ z. absurd (c .if1 .taken z)) (s .pre)
 
 header-of-requires : tie.Need-header-of-requires
@@ -76,7 +78,8 @@ returns-2 c =
     let header = c .before in
     let settle = header .before .before .before .before .before .before in
     let s = settle .before .before .before .before .before .before in
-    turn-taken _ _ (s .args .result .now) (s .args .filled) _ _ _ (s .pre) (settle .settle-file .ensures .0) (settle .settle-file .ensures .1 .0) (settle .settle-file .ensures .1 .1)
+    turn-taken _ _ (s .args .result .now) (s .args .filled) _ _ _ (s .pre) (settle .settle-file .ensures .0)
+    (settle .settle-file .ensures .1 .0) (settle .settle-file .ensures .1 .1)
     (omega (arith, settle .settle-file .kept)) (λ z. ap (λ n. s .args .filled + n) (c .result-bytes .ensures ∙ ap resultBytes (rows-are header))) (room c)
 
 pub settle-next-spec : {M : Type 1} → statement M

@@ -1,4 +1,5 @@
--- `npalist::next_step` meets its contract. What was read stands at the front of both buffers, and is handed on as it is.
+-- `npalist::next_step` meets its contract. What was read stands at the front of both buffers,
+-- and is handed on as it is.
 use Prim.Native.Nat.{_≤_}
 use mathlib.Core.Path.{sym}
 use lib.ListN.{length, take}
@@ -38,7 +39,8 @@ slice-reshare-prefix-list-next-2 : tie.Need-slice-reshare-prefix-list-next-2
 slice-reshare-prefix-list-next-2 c = within (c .before .before .before .before .before .before)
 
 slice-aggregate-list-next-2 : tie.Need-slice-aggregate-list-next-2
-slice-aggregate-list-next-2 c = sym (length-take-le _ _ (within (c .before .before .before .before .before .before .before)))
+slice-aggregate-list-next-2 c =
+    sym (length-take-le _ _ (within (c .before .before .before .before .before .before .before)))
 
 list-next-requires : tie.Need-list-next-requires
 list-next-requires c κs =

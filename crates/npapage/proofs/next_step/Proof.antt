@@ -1,4 +1,5 @@
--- `npapage::next_step` meets its contract. What was read stands at the front of both buffers, and is handed on as it is.
+-- `npapage::next_step` meets its contract. What was read stands at the front of both buffers,
+-- and is handed on as it is.
 use Prim.Native.Nat.{_≤_}
 use mathlib.Core.Path.{sym}
 use lib.ListN.{length}
@@ -36,7 +37,8 @@ slice-reshare-prefix-page-next-2 : tie.Need-slice-reshare-prefix-page-next-2
 slice-reshare-prefix-page-next-2 c = within (c .before .before .before .before .before .before)
 
 slice-aggregate-page-next-2 : tie.Need-slice-aggregate-page-next-2
-slice-aggregate-page-next-2 c = sym (length-take-le _ _ (within (c .before .before .before .before .before .before .before)))
+slice-aggregate-page-next-2 c =
+    sym (length-take-le _ _ (within (c .before .before .before .before .before .before .before)))
 
 page-next-requires : tie.Need-page-next-requires
 page-next-requires c κs =

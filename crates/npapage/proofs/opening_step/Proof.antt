@@ -1,4 +1,5 @@
--- `npapage::opening_step` meets its contract. What was read stands at the front of both buffers, and is handed on as it is.
+-- `npapage::opening_step` meets its contract. What was read stands at the front of both buffers,
+-- and is handed on as it is.
 use Prim.Native.Nat.{_≤_}
 use mathlib.Core.Path.{sym}
 use lib.ListN.{length}
@@ -35,7 +36,8 @@ slice-reshare-prefix-page-opening-2 : tie.Need-slice-reshare-prefix-page-opening
 slice-reshare-prefix-page-opening-2 c = within (c .before .before .before .before .before .before)
 
 slice-aggregate-page-opening-2 : tie.Need-slice-aggregate-page-opening-2
-slice-aggregate-page-opening-2 c = sym (length-take-le _ _ (within (c .before .before .before .before .before .before .before)))
+slice-aggregate-page-opening-2 c =
+    sym (length-take-le _ _ (within (c .before .before .before .before .before .before .before)))
 
 page-opening-requires : tie.Need-page-opening-requires
 page-opening-requires c κs =

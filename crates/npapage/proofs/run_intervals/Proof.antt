@@ -1,4 +1,5 @@
--- `npapage::run_intervals` meets its contract. The ledger stays one of the year, the sums stay within their bounds, and the numbers of blocks rise to a bound.
+-- `npapage::run_intervals` meets its contract. The ledger stays one of the year, the sums stay within their bounds,
+-- and the numbers of blocks rise to a bound.
 use Prim.Native.Nat.{_-_, _≤_, _<_}
 use mathlib.Core.Path.{_≡_}
 use lib.ListN.{length}

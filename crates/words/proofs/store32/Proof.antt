@@ -10,7 +10,8 @@ use Rattle.words.proofs.store32.Statement.{statement}
 use Rattle.words.proofs.store32.Tie as tie
 
 abbrev Inv-loop : tie.InvT-loop
-Inv-loop s b₀ i₀ b i = (i ≤ length s) × ((placedAt (4 * i) (bytesOfWords 4 (drop i s)) b ≡ placedAt 0 (bytesOfWords 4 s) b₀) × (length b ≡ length b₀))
+Inv-loop s b₀ i₀ b i = (i ≤ length s)
+    × ((placedAt (4 * i) (bytesOfWords 4 (drop i s)) b ≡ placedAt 0 (bytesOfWords 4 s) b₀) × (length b ≡ length b₀))
 
 abbrev μ-loop : tie.MeasureT-loop
 μ-loop s b₀ i₀ b i = length s - i

@@ -11,7 +11,8 @@ use Rattle.words.proofs.store64.Statement.{statement}
 use Rattle.words.proofs.store64.Tie as tie
 
 abbrev Inv-loop : tie.InvT-loop
-Inv-loop s b₀ i₀ b i = (i ≤ length s) × ((placedAt (8 * i) (bytesOfWords 8 (drop i s)) b ≡ written s b₀) × (length b ≡ length b₀))
+Inv-loop s b₀ i₀ b i =
+    (i ≤ length s) × ((placedAt (8 * i) (bytesOfWords 8 (drop i s)) b ≡ written s b₀) × (length b ≡ length b₀))
 
 abbrev μ-loop : tie.MeasureT-loop
 μ-loop s b₀ i₀ b i = length s - i

@@ -1,4 +1,5 @@
--- `assessment::account::full_charge` meets its contract. The product of its bounds fits 64 bits; the year chooses the divisor.
+-- `assessment::account::full_charge` meets its contract. The product of its bounds fits 64 bits;
+-- the year chooses the divisor.
 use Prim.Native.Nat.{_*_, _≤_}
 use mathlib.Core.Path.{sym, ap}
 use native.Mathlib.Nat.{mul-le-mul}

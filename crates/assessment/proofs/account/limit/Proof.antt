@@ -1,4 +1,5 @@
--- `assessment::account::limit` meets its contract. The product of its bounds fits 64 bits; the year chooses the divisor.
+-- `assessment::account::limit` meets its contract. The product of its bounds fits 64 bits;
+-- the year chooses the divisor.
 use Prim.Native.Nat.{_*_, _/_, _≤_}
 use mathlib.Core.Path.{_≡_, sym, ap}
 use native.Mathlib.Nat.{mul-le-mul}

@@ -1,4 +1,5 @@
--- `assessment::balancing::import_share` meets its contract. The region-wide word is tested, and the imports are bounded.
+-- `assessment::balancing::import_share` meets its contract. The region-wide word is tested,
+-- and the imports are bounded.
 use Prim.Native.Nat.{_≤_}
 use mathlib.Core.Path.{_≡_, _∙_}
 use native.Mathlib.Omega.{arith}

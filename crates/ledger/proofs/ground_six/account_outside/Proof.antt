@@ -1,4 +1,5 @@
--- `ledger::ground_six::account_outside` meets its contract. Commitment, charged sum and credited sum, each against its most.
+-- `ledger::ground_six::account_outside` meets its contract. Commitment, charged sum and credited sum,
+-- each against its most.
 use mathlib.Core.Path.{sym, _∙_}
 use borrow.Author.Tests.{ltb-false}
 use Rattle.reading.specs.Values.{termsIn}

@@ -1,4 +1,5 @@
--- `ledger::ground_six::accounts_refused` meets its contract. The invariant: all accounts are refused just where those left are, after the last id and with the sums so far.
+-- `ledger::ground_six::accounts_refused` meets its contract. The invariant:
+-- all accounts are refused just where those left are, after the last id and with the sums so far.
 use Prim.Native.Nat.{_-_}
 use mathlib.Core.Path.{sym, ap, _∙_}
 use mathlib.Core.Bool.{not}
@@ -63,7 +64,8 @@ plus-requires c κs =
     let read = c .before .before .before .before in
     let within = sym (c .before .account-outside .ensures) ∙ c .if3 .left in
     let most =
-    charged-most (at .loop .inv) (start .pre .0) (omega arith) _ (read .account-at .ensures) (start .pre .1 .0) within in
+    charged-most (at .loop .inv) (start .pre .0) (omega arith) _ (read .account-at .ensures)
+    (start .pre .1 .0) within in
     omega (arith, most, at .loop .inv .charged-low)
 
 plus-requires-2 : tie.Need-plus-requires-2 Inv-loop μ-loop
@@ -75,7 +77,8 @@ plus-requires-2 c κs =
     let read = tested .before .before .before .before in
     let within = sym (tested .before .account-outside .ensures) ∙ tested .if3 .left in
     let most =
-    credited-most (at .loop .inv) (start .pre .0) (omega arith) _ (read .account-at .ensures) (start .pre .1 .0) within in
+    credited-most (at .loop .inv) (start .pre .0) (omega arith) _ (read .account-at .ensures)
+    (start .pre .1 .0) within in
     omega (arith, most, at .loop .inv .credited-low)
 
 add-j : tie.Need-add-j Inv-loop μ-loop

@@ -1,4 +1,5 @@
--- `ledger::ground_six::not_a_ledger` meets its contract. The layout, what stands before the accounts, then the accounts decide.
+-- `ledger::ground_six::not_a_ledger` meets its contract. The layout, what stands before the accounts,
+-- then the accounts decide.
 use mathlib.Core.Path.{sym, _∙_}
 use Rattle.words.specs.Grounds.{outside}
 use Rattle.words.proofs.Tests.{facts}

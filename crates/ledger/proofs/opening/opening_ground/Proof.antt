@@ -1,4 +1,5 @@
--- `ledger::opening::opening_ground` meets its contract. The tests are made in the order of the grounds, and the first that holds is answered.
+-- `ledger::opening::opening_ground` meets its contract. The tests are made in the order of the grounds,
+-- and the first that holds is answered.
 use mathlib.Core.Path.{sym, _∙_}
 use Rattle.reading.proofs.Facts.{block-has-header, block-read, listed}
 use Rattle.ledger.proofs.OpeningLaws.{

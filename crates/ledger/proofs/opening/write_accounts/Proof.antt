@@ -1,4 +1,5 @@
--- `ledger::opening::write_accounts` meets its contract. The invariant: to write the accounts left into the ledger as it is now is to write all of them into it as it was.
+-- `ledger::opening::write_accounts` meets its contract. The invariant:
+-- to write the accounts left into the ledger as it is now is to write all of them into it as it was.
 use Prim.Native.Nat.{_-_, _≤_}
 use mathlib.Core.Path.{_≡_, refl}
 use native.Mathlib.Omega.{arith}

@@ -1,4 +1,5 @@
--- `ledger::opening::write_opened` meets its contract. What stands before the accounts, and the accounts, are the ledger.
+-- `ledger::opening::write_opened` meets its contract. What stands before the accounts, and the accounts,
+-- are the ledger.
 use native.Mathlib.Omega.{arith}
 use Rattle.ledger.specs.Ledger.{ledgerBytes}
 use Rattle.ledger.specs.Values.{standingIn}

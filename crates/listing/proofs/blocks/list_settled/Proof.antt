@@ -10,7 +10,8 @@ use Rattle.listing.proofs.blocks.list_settled.Statement.{statement}
 use Rattle.listing.proofs.blocks.list_settled.Tie as tie
 
 -- where no ground is answered, what settling accepted
-passed : (c : tie.Else1) → let start = c .before .before .before .before .before .before .before .before .before .before .before .before in
+passed : (c : tie.Else1) → let start =
+    c .before .before .before .before .before .before .before .before .before .before .before .before in
     Accepted (start .args .ledger .now) (start .args .file .now) (start .args .result .now)
 passed c = accepted _ _ _ (sym (c .before .before .before .before .before .settle-file .ensures .0) ∙ c .if1 .left)
 
@@ -38,7 +39,8 @@ returns c =
     let then = c .before .before .before .before in
     let settle = then .before .before .before .before .before in
     let start = settle .before .before .before .before .before .before .before in
-    interval-refused _ _ _ _ _ _ (start .pre .0) (settle .settle-file .ensures .0) (settle .settle-file .ensures .1 .0) _ _ _ (then .if1 .taken)
+    interval-refused _ _ _ _ _ _ (start .pre .0) (settle .settle-file .ensures .0)
+    (settle .settle-file .ensures .1 .0) _ _ _ (then .if1 .taken)
     (put .put-refused .ensures .0) (put .put-refused .ensures .1 .0) (omega arith)
 
 header-of-requires : tie.Need-header-of-requires
@@ -86,10 +88,13 @@ returns-2 c =
     let says = header .header-of .ensures in
     let few = passed else .passed .tabled .rows-few in
     let count = ap (λ h. h .rowCount) says in
-    interval-settled _ _ _ _ _ _ (start .pre .0) (settle .settle-file .ensures .0) (settle .settle-file .ensures .1 .0) _ _ _ _ _ _ _ (else .if1 .left)
-    (settle .settle-file .ensures .1 .1) (ap (λ h. h .interval) says) (omega (arith, few, count, rows .put-row-lines .ensures))
+    interval-settled _ _ _ _ _ _ (start .pre .0) (settle .settle-file .ensures .0)
+    (settle .settle-file .ensures .1 .0) _ _ _ _ _ _ _ (else .if1 .left)
+    (settle .settle-file .ensures .1 .1) (ap (λ h. h .interval) says)
+    (omega (arith, few, count, rows .put-row-lines .ensures))
     (rows .put-row-lines .ensures .0) (rows .put-row-lines .ensures .1 .0)
-    (pool .put-pool-line .ensures .0) (pool .put-pool-line .ensures .1 .0) (omega (arith, few, count, rows .put-row-lines .ensures))
+    (pool .put-pool-line .ensures .0) (pool .put-pool-line .ensures .1 .0)
+    (omega (arith, few, count, rows .put-row-lines .ensures))
 
 pub list-settled-spec : {M : Type 1} → statement M
 list-settled-spec =

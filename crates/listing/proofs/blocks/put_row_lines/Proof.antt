@@ -77,7 +77,8 @@ loop-again c =
     let inv = l .loop .inv in
     let count = row-count (s .pre .0 .read) in
     let turn =
-    row-turn (s .args .file .now) (s .args .result .now) (s .args .h .interval) (l .loop .i) (rowIn (row .row-at .result)) (l .loop .to)
+    row-turn (s .args .file .now) (s .args .result .now) (s .args .h .interval) (l .loop .i)
+    (rowIn (row .row-at .result)) (l .loop .to)
     (put .put-row-line .result) _ _ (l .loop .out) _ _ (omega (arith, count))
     (row .row-at .ensures) (part .row-part .ensures) (omega arith) (omega arith) (inv .1) (inv .2)
     (put .put-row-line .ensures .0) (put .put-row-line .ensures .1 .0)
@@ -95,8 +96,10 @@ returns c =
     let f = s .args .file .now in
     let r = s .args .result .now in
     let count = row-count (s .pre .0 .read) in
-    let same = ap (λ h. bytesOfLines (rowLines (h .interval) (rowsOf f) (drop resultHeaderBytes r))) (s .pre .0 .read .says) in
-    let end = row-end f r (s .args .h .interval) (l .loop .i) _ _ (l .loop .out) _ (omega (arith, count)) (l .loop .inv .1) (l .loop .inv .2) in
+    let same = ap (λ h. bytesOfLines (rowLines (h .interval) (rowsOf f) (drop resultHeaderBytes r)))
+    (s .pre .0 .read .says) in
+    let end = row-end f r (s .args .h .interval) (l .loop .i) _ _ (l .loop .out) _ (omega (arith, count))
+    (l .loop .inv .1) (l .loop .inv .2) in
     (end .0 ∙ ap (λ k. placedAt (s .args .at) k (s .args .out .now)) same, (end .1 ∙ ap (λ k. s .args .at + length k) same, omega arith))
 
 pub put-row-lines-spec : {M : Type 1} → statement M

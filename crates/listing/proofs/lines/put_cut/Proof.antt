@@ -23,7 +23,8 @@ unfolding bytesOfLine text
 returns c =
     let last = c .before .before in
     let first = last .before .before .before .before in
-    let both = then-place _ _ _ _ _ _ _ _ (omega arith) (first .put-text .ensures .0) (first .put-text .ensures .1) (last .put-last .ensures .0) (last .put-last .ensures .1 .0) in
+    let both = then-place _ _ _ _ _ _ _ _ (omega arith) (first .put-text .ensures .0) (first .put-text .ensures .1)
+    (last .put-last .ensures .0) (last .put-last .ensures .1 .0) in
     (both .0, (both .1, omega arith))
 
 pub put-cut-spec : {M : Type 1} → statement M

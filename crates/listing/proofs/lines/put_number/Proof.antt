@@ -19,7 +19,8 @@ returns c =
     let byte = c .before .before in
     let number = byte .before .before .before .before in
     let both =
-    number-then _ _ _ _ _ _ _ _ (omega arith) (number .put-decimal .ensures .0) (number .put-decimal .ensures .1 .0) (byte .put-byte .ensures .0) (byte .put-byte .ensures .1)
+    number-then _ _ _ _ _ _ _ _ (omega arith) (number .put-decimal .ensures .0) (number .put-decimal .ensures .1 .0)
+    (byte .put-byte .ensures .0) (byte .put-byte .ensures .1)
     in
     (both .0, (both .1, omega arith))
 

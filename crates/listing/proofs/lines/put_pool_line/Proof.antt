@@ -1,4 +1,5 @@
--- `listing::lines::put_pool_line` meets its contract. The word, the interval and the four words stand one after the other.
+-- `listing::lines::put_pool_line` meets its contract. The word,
+-- the interval and the four words stand one after the other.
 use Prim.Native.Nat.{_+_}
 use mathlib.Core.Path.{ap, _∙_}
 use lib.ListN.{length}

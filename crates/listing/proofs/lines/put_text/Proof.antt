@@ -10,7 +10,8 @@ use Rattle.listing.proofs.lines.put_text.Statement.{statement}
 use Rattle.listing.proofs.lines.put_text.Tie as tie
 
 abbrev Inv-loop : tie.InvT-loop
-Inv-loop out₀ at bytes i₀ out i = (i ≤ length bytes) × (placedAt (at + i) (drop i bytes) out ≡ placedAt at bytes out₀) × (length out ≡ length out₀)
+Inv-loop out₀ at bytes i₀ out i =
+    (i ≤ length bytes) × (placedAt (at + i) (drop i bytes) out ≡ placedAt at bytes out₀) × (length out ≡ length out₀)
 
 abbrev μ-loop : tie.MeasureT-loop
 μ-loop out₀ at bytes i₀ out i = length bytes - i

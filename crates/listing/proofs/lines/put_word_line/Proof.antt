@@ -49,7 +49,8 @@ loop-again c =
     let field = c .before .before in
     let l = field .before .before .before .before in
     let turn =
-    words-turn _ _ _ _ _ _ _ _ _ _ (omega arith) (field .before .number64 .ensures) (omega arith) (l .loop .inv .1) (l .loop .inv .2) (field .put-field .ensures .0) (field .put-field .ensures .1 .0)
+    words-turn _ _ _ _ _ _ _ _ _ _ (omega arith) (field .before .number64 .ensures) (omega arith) (l .loop .inv .1)
+    (l .loop .inv .2) (field .put-field .ensures .0) (field .put-field .ensures .1 .0)
     in
     (omega arith, turn .0, turn .1, omega arith, omega arith)
 
@@ -69,7 +70,8 @@ returns : tie.Need-returns Inv-loop μ-loop
 returns c =
     let last = c .before .before in
     let l = last .before .before .before .before in
-    let end = words-end _ _ _ _ _ _ _ _ _ _ (omega arith) (last .before .number642 .ensures) (l .loop .inv .1) (l .loop .inv .2) (last .put-last .ensures .0) (last .put-last .ensures .1 .0) in
+    let end = words-end _ _ _ _ _ _ _ _ _ _ (omega arith) (last .before .number642 .ensures) (l .loop .inv .1)
+    (l .loop .inv .2) (last .put-last .ensures .0) (last .put-last .ensures .1 .0) in
     (end .0, (end .1, omega arith))
 
 pub put-word-line-spec : {M : Type 1} → statement M

@@ -1,4 +1,5 @@
--- `listing::lines::put_year_line` meets its contract. The word, the id, the kilowatts and the cents stand one after the other.
+-- `listing::lines::put_year_line` meets its contract. The word, the id,
+-- the kilowatts and the cents stand one after the other.
 use Prim.Native.Nat.{_+_}
 use mathlib.Core.Path.{ap, _∙_}
 use lib.ListN.{length}
@@ -44,7 +45,8 @@ returns c =
     (third .put-kilowatts .ensures .0) (third .put-kilowatts .ensures .1 .0)
     (last .put-cents .ensures .0) (last .put-cents .ensures .1 .0)
     in
-    let all = then-place _ _ _ _ _ _ _ _ (omega arith) (first .put-text .ensures .0) (first .put-text .ensures .1) (later .0) (later .1) in
+    let all = then-place _ _ _ _ _ _ _ _ (omega arith) (first .put-text .ensures .0) (first .put-text .ensures .1)
+    (later .0) (later .1) in
     (all .0 ∙ ap (λ l. placedAt (s .args .at) l (s .args .out .now)) same, (all .1 ∙ ap (λ l. (s .args .at) + length l) same, omega arith))
 
 pub put-year-line-spec : {M : Type 1} → statement M

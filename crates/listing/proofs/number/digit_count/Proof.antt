@@ -1,4 +1,5 @@
--- `listing::number::digit_count` meets its contract. The digits counted and those of what is left are one more than all.
+-- `listing::number::digit_count` meets its contract.
+-- The digits counted and those of what is left are one more than all.
 use Prim.Native.Nat.{_+_, _≤_}
 use mathlib.Core.Path.{_≡_, ap}
 use native.Mathlib.Omega.{arith}

@@ -1,4 +1,5 @@
--- `listing::number::put_decimal` meets its contract. What is left to write are the digits of what is left of the number.
+-- `listing::number::put_decimal` meets its contract.
+-- What is left to write are the digits of what is left of the number.
 use Prim.Native.Nat.{_+_, _≤_}
 use mathlib.Core.Path.{_≡_, refl}
 use native.Mathlib.Omega.{arith}
@@ -12,7 +13,8 @@ use Rattle.listing.proofs.number.put_decimal.Tie as tie
 
 abbrev Inv-loop : tie.InvT-loop
 Inv-loop out₀ at v end i₀ rest₀ out i rest =
-    (placedAt at (decimal rest) out ≡ placedAt at (decimal v) out₀) × (i ≡ at + length (decimal rest)) × (rest ≤ v) × (length out ≡ length out₀)
+    (placedAt at (decimal rest) out ≡ placedAt at (decimal v) out₀) × (i ≡ at + length (decimal rest)) × (rest ≤ v)
+    × (length out ≡ length out₀)
 
 abbrev μ-loop : tie.MeasureT-loop
 μ-loop out₀ at v end i₀ rest₀ out i rest = rest
@@ -43,7 +45,8 @@ loop-again c =
     let l = c .before .before in
     let longer = decimal-longer (l .loop .rest) (omega arith) (omega arith) in
     let most = decimal-most (l .loop .rest) in (
-      digit-turn _ _ _ _ _ _ (l .loop .inv .0) (l .loop .inv .1) (omega arith) (omega arith) (omega arith) (c .digit .ensures),
+      digit-turn _ _ _ _ _ _ (l .loop .inv .0) (l .loop .inv .1) (omega arith) (omega arith) (omega arith)
+          (c .digit .ensures),
       omega arith,
       omega arith,
       simp length-set (omega arith),

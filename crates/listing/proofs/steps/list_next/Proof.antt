@@ -1,4 +1,5 @@
--- `listing::steps::list_next` meets its contract. Where the stream stops its line is written, and else the block's lines.
+-- `listing::steps::list_next` meets its contract. Where the stream stops its line is written,
+-- and else the block's lines.
 use mathlib.Core.Path.{sym, _∙_}
 use native.Mathlib.Omega.{arith}
 use Rattle.listing.proofs.EndLaws.{stop-taken, block-taken, stop-lines}

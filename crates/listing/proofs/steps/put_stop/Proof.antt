@@ -46,7 +46,8 @@ unfolding foundAs stopLines
 returns c =
     let put = c .before .before in
     let told = put .before .before in
-    let w = stop-line _ _ _ _ _ _ _ (told .enum-told .given .1) refl (put .put-end .ensures .0) (put .put-end .ensures .1 .0 ∙ sym (zero-add _)) in
+    let w = stop-line _ _ _ _ _ _ _ (told .enum-told .given .1) refl (put .put-end .ensures .0)
+    (put .put-end .ensures .1 .0 ∙ sym (zero-add _)) in
     (w .0, (w .1, omega arith))
 
 same-length-2 : tie.Need-same-length-2
@@ -57,7 +58,8 @@ unfolding foundAs stopLines endLines
 returns-2 c =
     let put = c .before .before in
     let told = put .before .before in
-    let w = stop-line _ _ _ _ _ _ _ (told .enum-told2 .given .1) (one-line _) (put .put-cut .ensures .0) (put .put-cut .ensures .1 .0) in
+    let w = stop-line _ _ _ _ _ _ _ (told .enum-told2 .given .1) (one-line _) (put .put-cut .ensures .0)
+    (put .put-cut .ensures .1 .0) in
     (w .0, (w .1, omega arith))
 
 same-length-3 : tie.Need-same-length-3

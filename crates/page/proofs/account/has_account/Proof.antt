@@ -13,7 +13,8 @@ ended-requires c κs = search needs
 returns : tie.Need-returns
 returns c =
     let walk = c .before in
-    has-is _ (walk .before .before .pre) _ _ _ (walk .walk-to .ensures .0) (walk .walk-to .ensures .1) _ (c .ended .ensures)
+    has-is _ (walk .before .before .pre) _ _ _ (walk .walk-to .ensures .0) (walk .walk-to .ensures .1) _
+    (c .ended .ensures)
 
 pub has-account-spec : {M : Type 1} → statement M
 has-account-spec = tie.close (tie.spec walk-to-requires ended-requires returns)

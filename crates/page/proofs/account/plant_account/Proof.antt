@@ -19,12 +19,14 @@ returns c =
     let arm = c .before in
     let walk = arm .before .before in
     c .empty .ensures
-    ∙ none-there _ (walk .before .before .pre) _ _ _ (walk .walk-to .ensures .0) (walk .walk-to .ensures .1) (sym (arm .before .ended .ensures) ∙ arm .if1 .taken)
+    ∙ none-there _ (walk .before .before .pre) _ _ _ (walk .walk-to .ensures .0) (walk .walk-to .ensures .1)
+    (sym (arm .before .ended .ensures) ∙ arm .if1 .taken)
 
 account-at-requires : tie.Need-account-at-requires
 account-at-requires c κs =
     let walk = c .before .before in
-    lies-there _ (walk .before .before .pre) _ _ _ (walk .walk-to .ensures .0) (walk .walk-to .ensures .1) (sym (c .before .ended .ensures) ∙ c .if1 .left)
+    lies-there _ (walk .before .before .pre) _ _ _ (walk .walk-to .ensures .0) (walk .walk-to .ensures .1)
+    (sym (c .before .ended .ensures) ∙ c .if1 .left)
 
 returns-2 : tie.Need-returns-2
 returns-2 c =

@@ -15,14 +15,16 @@ to-requires : tie.Need-to-requires
 to-requires c κs =
     let read = c .before in
     let s = read .before .before in
-    may-walk _ (s .pre) _ (read .standing-of .ensures) _ _ (c .start .ensures .0) (c .start .ensures .1 .0) (c .start .ensures .1 .1)
+    may-walk _ (s .pre) _ (read .standing-of .ensures) _ _ (c .start .ensures .0) (c .start .ensures .1 .0)
+    (c .start .ensures .1 .1)
 
 returns : tie.Need-returns
 returns c =
     let began = c .before in
     let read = began .before in
     let s = read .before .before in
-    walked _ (s .pre) _ (read .standing-of .ensures) _ _ _ (began .start .result) (began .start .ensures .0) (began .start .ensures .1 .0)
+    walked _ (s .pre) _ (read .standing-of .ensures) _ _ _ (began .start .result) (began .start .ensures .0)
+    (began .start .ensures .1 .0)
     (c .to .ensures .0) (c .to .ensures .1 .0)
 
 pub walk-to-spec : {M : Type 1} → statement M

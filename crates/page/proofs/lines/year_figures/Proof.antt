@@ -29,7 +29,8 @@ returns c =
     let own = c .before .before .before .before .before in
     let read = own .before .before in
     let s = read .before .before in
-    year-says _ (s .args .page) _ _ _ (terms-say _ (s .pre) _ (read .standing-of .ensures) .0) (own .plant-account .ensures) (c .limit .ensures)
+    year-says _ (s .args .page) _ _ _ (terms-say _ (s .pre) _ (read .standing-of .ensures) .0)
+    (own .plant-account .ensures) (c .limit .ensures)
 
 pub year-figures-spec : {M : Type 1} → statement M
 year-figures-spec =

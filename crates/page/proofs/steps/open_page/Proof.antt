@@ -29,7 +29,8 @@ has-account-requires c κs =
     let arm = c .before in
     let list = arm .before .before .before .before .before .before in
     let s = list .before .before .before .before in
-    accepted-holds _ _ _ _ _ _ (list .list-opening .ensures) (not-false _ (arm .if1 .left)) (λ i. omega (arith, s .shared-slice-known .given i))
+    accepted-holds _ _ _ _ _ _ (list .list-opening .ensures) (not-false _ (arm .if1 .left))
+    (λ i. omega (arith, s .shared-slice-known .given i))
 
 same-length-3 : tie.Need-same-length-3
 same-length-3 c = search needs
@@ -43,9 +44,11 @@ returns-2 c =
     let arm = look .before .before in
     let list = arm .before .before .before .before .before .before in
     let s = list .before .before .before .before in (
-      known-paged _ _ _ _ _ _ (list .list-opening .ensures) (not-false _ (arm .if1 .left)) (λ i. omega (arith, s .shared-slice-known .given i))
+      known-paged _ _ _ _ _ _ (list .list-opening .ensures) (not-false _ (arm .if1 .left))
+          (λ i. omega (arith, s .shared-slice-known .given i))
           _ _ (look .has-account .ensures) (c .if2 .taken),
-      λ on. year-opened _ _ _ _ _ _ (list .list-opening .ensures) on (λ i. omega (arith, s .shared-slice-known .given i)),
+      λ on. year-opened _ _ _ _ _ _ (list .list-opening .ensures) on
+          (λ i. omega (arith, s .shared-slice-known .given i)),
     )
 
 put-refused-requires : tie.Need-put-refused-requires
@@ -65,8 +68,10 @@ returns-3 c =
     let arm = look .before .before in
     let list = arm .before .before .before .before .before .before in
     let s = list .before .before .before .before in (
-      foreign-paged _ _ _ _ _ _ (list .list-opening .ensures) (not-false _ (arm .if1 .left)) (λ i. omega (arith, s .shared-slice-known .given i))
-          _ _ (look .has-account .ensures) (other .if2 .left) _ _ (put .put-refused .ensures .0) (put .put-refused .ensures .1 .0) (omega arith),
+      foreign-paged _ _ _ _ _ _ (list .list-opening .ensures) (not-false _ (arm .if1 .left))
+          (λ i. omega (arith, s .shared-slice-known .given i))
+          _ _ (look .has-account .ensures) (other .if2 .left) _ _ (put .put-refused .ensures .0)
+          (put .put-refused .ensures .1 .0) (omega arith),
       λ on. never on,
     )
 

@@ -1,4 +1,5 @@
--- `page::steps::page_next` meets its contract. Where the stream stops the year is written, and else the interval is settled.
+-- `page::steps::page_next` meets its contract. Where the stream stops the year is written,
+-- and else the interval is settled.
 use mathlib.Core.Path.{_≡_, refl, sym, ap, _∙_}
 use mathlib.Core.List.{_++_}
 use native.Mathlib.Omega.{arith}
@@ -45,7 +46,8 @@ returns c =
     let next = asked .before in
     let start = next .before .before .before .before .before .before in
     let year = yearLines (start .args .page .id) (stateIn (start .args .ledger .now) (start .args .page)) in (
-      stop-taken (pageSteps (start .args .page .id)) _ _ _ _ _ _ (next .before .most-bytes .ensures .0) (next .next-block .ensures)
+      stop-taken (pageSteps (start .args .page .id)) _ _ _ _ _ _ (next .before .most-bytes .ensures .0)
+          (next .next-block .ensures)
           (sym (asked .stops .ensures) ∙ arm .if1 .taken) _
           (λ e at. ap (λ ls. ls ++ year) (stop-lines _ _ e at) ∙ end-later _ _ _ e (λ z. omega (arith, start .pre .0))) _ _ _
           (put .page-stop .ensures .0) (put .page-stop .ensures .1 .0)
@@ -70,7 +72,8 @@ returns-2 c =
     let asked = arm .before in
     let next = asked .before in
     let start = next .before .before .before .before .before .before in (
-      block-taken (pageSteps (start .args .page .id)) _ _ _ _ _ _ (next .before .most-bytes .ensures .0) (next .next-block .ensures)
+      block-taken (pageSteps (start .args .page .id)) _ _ _ _ _ _ (next .before .most-bytes .ensures .0)
+          (next .next-block .ensures)
           (sym (asked .stops .ensures) ∙ arm .if1 .left) _ _ _ _
           (step-as _ _ _ _ _ _ (ap inBytes (block-later _ _ _ _ (λ z. omega (arith, start .pre .0)))) (page .page-interval .ensures .0)),
       page .page-interval .ensures .1,

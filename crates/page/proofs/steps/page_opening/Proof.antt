@@ -1,4 +1,5 @@
--- `page::steps::page_opening` meets its contract. Where the stream stops its line is written, and else the opening is taken.
+-- `page::steps::page_opening` meets its contract. Where the stream stops its line is written,
+-- and else the opening is taken.
 use mathlib.Core.Path.{sym, _∙_}
 use native.Mathlib.Omega.{arith}
 use Rattle.words.proofs.Ints.{never}

@@ -1,4 +1,5 @@
--- `page::steps::page_settled` meets its contract. What settling answers chooses the line, and the place of the plant's row.
+-- `page::steps::page_settled` meets its contract. What settling answers chooses the line,
+-- and the place of the plant's row.
 use Prim.Native.Nat.{_≤_, _<_}
 use mathlib.Core.Path.{_≡_, refl, sym, ap, _∙_, subst}
 use native.Mathlib.Omega.{arith}
@@ -15,18 +16,21 @@ use Rattle.page.proofs.steps.page_settled.Statement.{statement}
 use Rattle.page.proofs.steps.page_settled.Tie as tie
 
 -- where no ground is answered, what settling accepted
-passed : (c : tie.Else1) → let start = c .before .before .before .before .before .before .before .before .before .before .before .before in
+passed : (c : tie.Else1) → let start =
+    c .before .before .before .before .before .before .before .before .before .before .before .before in
     Accepted (start .args .ledger .now) (start .args .file .now) (start .args .result .now)
 passed c = accepted _ _ _ (sym (c .before .before .before .before .before .settle-file .ensures .0) ∙ c .if1 .left)
 
 -- the header's number of rows
-rows-are : (c : tie.After-header-of) → let start = c .before .before .before .before .before .before .before .before .before .before .before .before .before in
+rows-are : (c : tie.After-header-of) → let start =
+    c .before .before .before .before .before .before .before .before .before .before .before .before .before in
     c .header-of .result .rows ≡ headerOf (start .args .file .now) .rowCount
 unfolding headerIn
 rows-are c = ap (λ h. h .rowCount) (c .header-of .ensures)
 
 -- its tables lie within the file
-tabled : (c : tie.After-header-of) → let start = c .before .before .before .before .before .before .before .before .before .before .before .before .before in
+tabled : (c : tie.After-header-of) → let start =
+    c .before .before .before .before .before .before .before .before .before .before .before .before .before in
     Tabled (start .args .file .now) (c .header-of .result)
 unfolding headerIn termsIn
 tabled c = subst (Tabled _) (sym (ap headerSaid (c .header-of .ensures))) (passed (c .before) .passed .tabled)
@@ -55,8 +59,10 @@ returns c =
     let arm = put .before .before in
     let settle = arm .before .before .before .before .before in
     let start = settle .before .before .before .before .before .before .before in (
-      refused-paged _ _ _ _ _ _ _ (start .pre .0) (settle .settle-file .ensures .0) (settle .settle-file .ensures .1 .0) (settle .settle-file .ensures .1 .1)
-          (start .args .page) _ _ _ (arm .if1 .taken) (put .put-refused .ensures .0) (put .put-refused .ensures .1 .0) (omega arith),
+      refused-paged _ _ _ _ _ _ _ (start .pre .0) (settle .settle-file .ensures .0) (settle .settle-file .ensures .1 .0)
+          (settle .settle-file .ensures .1 .1)
+          (start .args .page) _ _ _ (arm .if1 .taken) (put .put-refused .ensures .0) (put .put-refused .ensures .1 .0)
+          (omega arith),
       (refl, (page-more _ _ _ (start .pre .1 .1 .0) (omega arith) (omega arith), year-settled _ _ _ (start .pre .1 .1 .1 .0) (settle .settle-file .ensures .1 .0))),
     )
 
@@ -79,7 +85,8 @@ returns-2 c =
     let arm = header .before in
     let settle = arm .before .before .before .before .before in
     let start = settle .before .before .before .before .before .before .before in (
-      none-paged _ _ _ _ _ _ _ (start .pre .0) (settle .settle-file .ensures .0) (settle .settle-file .ensures .1 .0) (settle .settle-file .ensures .1 .1)
+      none-paged _ _ _ _ _ _ _ (start .pre .0) (settle .settle-file .ensures .0) (settle .settle-file .ensures .1 .0)
+          (settle .settle-file .ensures .1 .1)
           (start .args .page) (arm .if1 .left) _ (omega (arith, c .if2 .taken, row .row-of .ensures .0, length-tabled (tabled header))),
       (refl, (page-more _ _ _ (start .pre .1 .1 .0) (omega arith) (omega arith), year-settled _ _ _ (start .pre .1 .1 .1 .0) (settle .settle-file .ensures .1 .0))),
     )
@@ -95,7 +102,8 @@ page-row-requires c κs =
     let start = settle .before .before .before .before .before .before .before in
     let t = tabled header in
     let words =
-    balance-in _ _ _ _ _ _ (sym (settle .settle-file .ensures .0) ∙ else .if1 .left) (settle .settle-file .ensures .1 .1) (row .row-of .ensures .0)
+    balance-in _ _ _ _ _ _ (sym (settle .settle-file .ensures .0) ∙ else .if1 .left)
+    (settle .settle-file .ensures .1 .1) (row .row-of .ensures .0)
     (omega (arith, length-tabled t)) in
     let few = start .pre .1 .1 .0 in (
       omega (arith, t .rows-few),
@@ -127,10 +135,13 @@ returns-3 c =
     let t = tabled header in
     let low : row .row-of .result < length (rowsOf (start .args .file .now)) = omega (arith, length-tabled t) in
     let words =
-    balance-in _ _ _ _ _ _ (sym (settle .settle-file .ensures .0) ∙ else .if1 .left) (settle .settle-file .ensures .1 .1) (row .row-of .ensures .0) low in
+    balance-in _ _ _ _ _ _ (sym (settle .settle-file .ensures .0) ∙ else .if1 .left)
+    (settle .settle-file .ensures .1 .1) (row .row-of .ensures .0) low in
     let paged = put .page-row .ensures in (
-      row-paged _ _ _ _ _ _ _ (start .pre .0) (settle .settle-file .ensures .0) (settle .settle-file .ensures .1 .0) (settle .settle-file .ensures .1 .1)
-          (start .args .page) (else .if1 .left) _ _ _ _ _ (row .row-of .ensures .0) low (ap (λ h. h .interval) (header .header-of .ensures)) paged,
+      row-paged _ _ _ _ _ _ _ (start .pre .0) (settle .settle-file .ensures .0) (settle .settle-file .ensures .1 .0)
+          (settle .settle-file .ensures .1 .1)
+          (start .args .page) (else .if1 .left) _ _ _ _ _ (row .row-of .ensures .0) low
+          (ap (λ h. h .interval) (header .header-of .ensures)) paged,
       (paged .id, (page-more _ _ _ (start .pre .1 .1 .0) (omega (arith, paged .shortfall, words .0)) (omega (arith, paged .bonus, words .1)), year-settled _ _ _ (start .pre .1 .1 .1 .0) (settle .settle-file .ensures .1 .0))),
     )
 

@@ -23,7 +23,8 @@ returns c =
     let s = stop .before .before .before .before in
     let both =
     year-after (s .args .page .id) (stateIn (s .args .ledger .now) (s .args .page)) _ _ _ _ _ _ (omega arith)
-    (stop .put-stop .ensures .0) (stop .put-stop .ensures .1 .0) (year .put-year .ensures .0) (year .put-year .ensures .1 .0)
+    (stop .put-stop .ensures .0) (stop .put-stop .ensures .1 .0) (year .put-year .ensures .0)
+    (year .put-year .ensures .1 .0)
     in
     (both .0, (both .1, omega arith))
 

@@ -1,4 +1,5 @@
--- `reading::header::tables_misplaced` meets its contract. Each test of a number, and that of the places, is one of the ground.
+-- `reading::header::tables_misplaced` meets its contract. Each test of a number, and that of the places,
+-- is one of the ground.
 use Prim.Native.Nat.{_*_, _≤_}
 use mathlib.Core.Path.{sym, ap, _∙_}
 use native.Mathlib.Nat.{mul-le-mul}
@@ -61,7 +62,8 @@ unfolding layoutIn tableIn headerIn
 returns-5 c =
     let l = c .before .before .before .before .before in
     let s = l .before .before .before .before .before .before .before .before .before .before in
-    let places = places-left _ (headerIn (s .args .h)) (s .pre .says) (layoutIn (l .layout-of .result)) (l .layout-of .ensures) in
+    let places = places-left _ (headerIn (s .args .h)) (s .pre .says) (layoutIn (l .layout-of .result))
+    (l .layout-of .ensures) in
     c .places-outside .ensures ∙ sym (places (omega arith) (omega arith) (omega arith) (omega arith))
 
 pub tables-misplaced-spec : {M : Type 1} → statement M

@@ -1,4 +1,5 @@
--- `reading::rows::row_at` meets its contract. The part of the file that begins with the row, by the bytes of its format.
+-- `reading::rows::row_at` meets its contract. The part of the file that begins with the row,
+-- by the bytes of its format.
 use Prim.Native.Nat.{ℕ, _+_, _*_, _≤_}
 use mathlib.Core.Path.{_≡_, sym, ap, _∙_}
 use native.Mathlib.Omega.{arith}
@@ -27,7 +28,8 @@ words s size is =
     let f = s .args .file .now in
     let i = s .args .i in
     ap (λ size. rowWords (s .args .h .format) (drop (s .args .h .«rows_at» + size * i) f)) (sym is)
-    ∙ ap (λ h. rowWords (h .format) (drop (h .rowsOffset + layoutOf (h .format) .rowBytes * i) f)) (s .pre .0 .read .says)
+    ∙ ap (λ h. rowWords (h .format) (drop (h .rowsOffset + layoutOf (h .format) .rowBytes * i) f))
+    (s .pre .0 .read .says)
 
 mul-at : tie.Need-mul-at
 mul-at c = search needs

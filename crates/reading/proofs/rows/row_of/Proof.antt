@@ -101,8 +101,10 @@ returns c =
     let metered = w6 .before .signed in
     let adjustment = w7 .before .signed2 in
     let lmp = w14 .before .before .signed3 in
-    let fifth = signed-field (metered .result) (metered .ensures .0) (metered .ensures .1) (w5 .number325 .ensures .0) in
-    let sixth = signed-field (adjustment .result) (adjustment .ensures .0) (adjustment .ensures .1) (w6 .number326 .ensures .0) in
+    let fifth = signed-field (metered .result) (metered .ensures .0) (metered .ensures .1)
+    (w5 .number325 .ensures .0) in
+    let sixth = signed-field (adjustment .result) (adjustment .ensures .0) (adjustment .ensures .1)
+    (w6 .number326 .ensures .0) in
     let twelfth = signed-field (lmp .result) (lmp .ensures .0) (lmp .ensures .1) (w12 .number3212 .ensures .0) in
     λ x. record {
       id = w2 .before .number32 .ensures .0 x;

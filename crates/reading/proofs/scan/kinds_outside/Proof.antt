@@ -43,7 +43,8 @@ returns c =
     let s = l .before .before in
     let read = c .before .before .table-schedule in
     let says = s .pre .0 .read .says in
-    let turn = kinds-turn (s .args .file .now) (s .args .first) (s .args .count) (headerIn (s .args .h)) says (l .loop .k) in
+    let turn = kinds-turn (s .args .file .now) (s .args .first) (s .args .count) (headerIn (s .args .h)) says
+    (l .loop .k) in
     let told = kind-below (scheduleIn (read .result)) (omega arith) in
     sym (turn (scheduleIn (read .result)) (read .ensures) (l .loop .inv .1) (omega arith) true told)
 
@@ -54,7 +55,8 @@ returns-2 c =
     let s = l .before .before in
     let read = c .before .before .before .before .table-schedule in
     let says = s .pre .0 .read .says in
-    let turn = kinds-turn (s .args .file .now) (s .args .first) (s .args .count) (headerIn (s .args .h)) says (l .loop .k) in
+    let turn = kinds-turn (s .args .file .now) (s .args .first) (s .args .count) (headerIn (s .args .h)) says
+    (l .loop .k) in
     let told = kind-above (scheduleIn (read .result)) (omega arith) in
     sym (turn (scheduleIn (read .result)) (read .ensures) (l .loop .inv .1) (omega arith) true told)
 
@@ -71,7 +73,8 @@ loop-again c =
     let s = l .before .before in
     let read = c .before .before .before .before .table-schedule in
     let says = s .pre .0 .read .says in
-    let turn = kinds-turn (s .args .file .now) (s .args .first) (s .args .count) (headerIn (s .args .h)) says (l .loop .k) in
+    let turn = kinds-turn (s .args .file .now) (s .args .first) (s .args .count) (headerIn (s .args .h)) says
+    (l .loop .k) in
     let told = kind-within (scheduleIn (read .result)) (omega arith) (omega arith) in
     (omega arith, turn (scheduleIn (read .result)) (read .ensures) (l .loop .inv .1) (omega arith) false told)
 

@@ -111,7 +111,8 @@ passes c =
       kind = omega arith;
       kilowatts = sym (e2 .before .kilowatts-outside .ensures) ∙ e2 .if2 .left;
       metered = beyond-field mostKilowatts (row .metered) metered-small (e3 .before .beyond .ensures) (e3 .if3 .left);
-      adjustment = beyond-field mostKilowatts (row .adjustment) adjustment-small (e4 .before .beyond2 .ensures) (e4 .if4 .left);
+      adjustment =
+          beyond-field mostKilowatts (row .adjustment) adjustment-small (e4 .before .beyond2 .ensures) (e4 .if4 .left);
       limits = omega arith;
       online = omega arith;
       lmp = beyond-field mostPrice (row .lmp) lmp-small (c .before .beyond3 .ensures) (c .if7 .left);

@@ -155,7 +155,8 @@ schedules-outside-requires c κs =
     let r = l .before .before .before .before .before in
     let s = r .before .before in
     let f = s .args .file .now in
-    let other = names-schedules (s .args .h .format) (s .args .h .rows) (l .loop2 .m) (r .rows-naming .ensures) (omega arith) .0 in
+    let other = names-schedules (s .args .h .format) (s .args .h .rows) (l .loop2 .m) (r .rows-naming .ensures)
+    (omega arith) .0 in
     let small = row-first f (λ i. omega (arith, r .before .shared-slice-known .given i)) (l .loop2 .m) in
     let first = ap (λ w. w .first) (c .row-at2 .ensures) in
     (s .pre, (other, omega (arith, first, small)))
@@ -176,7 +177,8 @@ loop2-again c =
     let s = r .before .before in
     let f = s .args .file .now in
     let rows = row-count (s .pre .read) in
-    let below = names-schedules (s .args .h .format) (s .args .h .rows) (l .loop2 .m) (r .rows-naming .ensures) (omega arith) .1 in
+    let below = names-schedules (s .args .h .format) (s .args .h .rows) (l .loop2 .m) (r .rows-naming .ensures)
+    (omega arith) .1 in
     let row = c .before .before .row-at2 .ensures in
     let told = sym (c .before .schedules-outside .ensures) ∙ c .if3 .left in
     let turn = row-turn f (schedulesOutside f) (l .loop2 .m) _ row (l .loop2 .inv .2) in
@@ -190,7 +192,8 @@ loop3-holds c =
     let s = r .before .before in
     let f = s .args .file .now in
     let said = format-said (s .pre .read) in
-    let none = schedules-pass f (l .loop2 .m) said (row-count (s .pre .read)) (r .rows-naming .ensures) (l .loop2 .inv .2) (omega arith) in
+    let none = schedules-pass f (l .loop2 .m) said (row-count (s .pre .read)) (r .rows-naming .ensures)
+    (l .loop2 .inv .2) (omega arith) in
     (omega arith, l .loop2 .inv .1, none, ap (any (pointsOutside f)) (words-start f))
 
 row-at-requires-3 :
@@ -224,7 +227,8 @@ schedule-at-requires c κs =
     let f = s .args .file .now in
     let rows = row-count (s .pre .read) in
     let number = p .before .schedules .ensures f (sym (format-said (s .pre .read))) in
-    let named = ap (schedulesOutside f) (row .ensures) ∙ none-at f (schedulesOutside f) (q .loop3 .n) (q .loop3 .inv .2) (omega (arith, rows)) in
+    let named = ap (schedulesOutside f) (row .ensures)
+    ∙ none-at f (schedulesOutside f) (q .loop3 .n) (q .loop3 .inv .2) (omega (arith, rows)) in
     (s .pre, (schedules-lie f (rowIn (row .result)) named (s .pre .read), omega (arith, number)))
 
 curve-misplaced-requires :
@@ -264,7 +268,8 @@ loop5-holds c =
     let number = p .before .schedules .ensures f (sym (format-said (s .pre .read))) in
     let told = sym (e .before .curve-misplaced .ensures) ∙ e .if5 .left in
     let placed = ap (λ n. curveMisplaced n (scheduleIn (read .result))) (sym (point-count (s .pre .read))) ∙ told in
-    let begins = curve-begins f (q .loop3 .inv .1) (q .loop3 .inv .2) (rowIn (row .result)) (p .loop4 .k) _ (p .loop4 .inv .1) in
+    let begins = curve-begins f (q .loop3 .inv .1) (q .loop3 .inv .2) (rowIn (row .result)) (p .loop4 .k) _
+    (p .loop4 .inv .1) in
     (omega arith, begins (scheduleIn (read .result)) (read .ensures) (omega (arith, number)) _ (c .curve .ensures .0) placed)
 
 point-refused-requires :
@@ -323,7 +328,8 @@ loop3-again c =
     let s = q .before .before .before .before .before .before .before .before .before in
     let f = s .args .file .now in
     let number = p .before .schedules .ensures f (sym (format-said (s .pre .read))) in
-    let passes = row-passes f (q .loop3 .inv .1) (q .loop3 .inv .2) (rowIn (row .result)) (p .loop4 .k) _ (p .loop4 .inv .1) in
+    let passes = row-passes f (q .loop3 .inv .1) (q .loop3 .inv .2) (rowIn (row .result)) (p .loop4 .k) _
+    (p .loop4 .inv .1) in
     (omega arith, q .loop3 .inv .1, q .loop3 .inv .2, passes (omega (arith, number)))
 
 returns :
@@ -345,7 +351,8 @@ returns-2 c =
     let s = r .before .before in
     let f = s .args .file .now in
     let rows = row-count (s .pre .read) in
-    let below = names-schedules (s .args .h .format) (s .args .h .rows) (l .loop2 .m) (r .rows-naming .ensures) (omega arith) .1 in
+    let below = names-schedules (s .args .h .format) (s .args .h .rows) (l .loop2 .m) (r .rows-naming .ensures)
+    (omega arith) .1 in
     let row = c .before .before .row-at2 .ensures in
     let told = sym (c .before .schedules-outside .ensures) ∙ c .if3 .taken in
     let turn = row-turn f (schedulesOutside f) (l .loop2 .m) _ row (l .loop2 .inv .2) in
@@ -363,7 +370,8 @@ returns-3 c =
     let number = p .before .schedules .ensures f (sym (format-said (s .pre .read))) in
     let told = sym (c .before .curve-misplaced .ensures) ∙ c .if5 .taken in
     let misplaced = ap (λ n. curveMisplaced n (scheduleIn (read .result))) (sym (point-count (s .pre .read))) ∙ told in
-    let fails = curve-fails f (q .loop3 .inv .1) (q .loop3 .inv .2) (rowIn (row .result)) (p .loop4 .k) _ (p .loop4 .inv .1) in
+    let fails = curve-fails f (q .loop3 .inv .1) (q .loop3 .inv .2) (rowIn (row .result)) (p .loop4 .k) _
+    (p .loop4 .inv .1) in
     sym (fails (scheduleIn (read .result)) (read .ensures) (omega (arith, number)) misplaced)
 
 returns-4 :
@@ -382,7 +390,8 @@ returns-5 c =
     let q = c .before .before in
     let s = q .before .before .before .before .before .before .before .before .before in
     let f = s .args .file .now in
-    let none = rows-pass f (pointsOutside f) (q .loop3 .n) (q .loop3 .inv .3) (omega (arith, row-count (s .pre .read))) in
+    let none = rows-pass f (pointsOutside f) (q .loop3 .n) (q .loop3 .inv .3)
+    (omega (arith, row-count (s .pre .read))) in
     sym (all-pass f (q .loop3 .inv .1) (q .loop3 .inv .2) none)
 
 pub scan-spec : {M : Type 1} → statement M

@@ -81,7 +81,8 @@ loop-holds c =
     let start = c .before .before .before .before .before in
     let p = start .pre .0 in
     let budget =
-    budget-begins (start .args .ledger .now) (start .args .file .now) (p .tabled .read) (c .start .result .budget) (c .start .result .account)
+    budget-begins (start .args .ledger .now) (start .args .file .now) (p .tabled .read) (c .start .result .budget)
+    (c .start .result .account)
     (omega (arith, c .start .ensures .1 .1, accounts-are p)) first in
     (refl, (omega arith, (rw first (walk-starts p), (charging-starts _ _ _, budget))))
 
@@ -98,7 +99,8 @@ to-requires c κs =
     let start = t .before .before .before .before .before .before .before .before in
     let enough =
     row-enough (start .args .ledger .now) (start .args .file .now) (passed t .tabled .read) (t .before .before .loop .i)
-    (t .before .before .loop .walk .account) (t .before .before .loop .walk .budget) (inv .1 .1 .1 .1) (t .if1 .taken) (c .row-at .ensures) refl in
+    (t .before .before .loop .walk .account) (t .before .before .loop .walk .budget) (inv .1 .1 .1 .1) (t .if1 .taken)
+    (c .row-at .ensures) refl in
     (all ∙ accounts-are (passed t), (rw all (ledger-read .room), (omega (arith, all, ledger-read .few), (inv .1 .0, enough))))
 
 row-figures-requires : tie.Need-row-figures-requires Inv-loop μ-loop
@@ -179,8 +181,10 @@ loop-again c =
     let ledger = start .args .ledger .now in
     let file = start .args .file .now in
     let spent =
-    row-spends ledger file (p .tabled .read) (l .i) (l .walk .account) (l .walk .budget) (inv .1 .1 .1 .1) (t .if1 .taken)
-    (to .before .row-at .ensures) refl (to .to .result .account) (to .to .result .budget) (to .to .ensures .0) (to .to .ensures .1 .1 .1) in
+    row-spends ledger file (p .tabled .read) (l .i) (l .walk .account) (l .walk .budget) (inv .1 .1 .1 .1)
+    (t .if1 .taken)
+    (to .before .row-at .ensures) refl (to .to .result .account) (to .to .result .budget) (to .to .ensures .0)
+    (to .to .ensures .1 .1 .1) in
     let left =
     subst (λ n. Budget ledger file (l .i + 1) n (c .on .result .budget)) (sym (c .on .ensures .0))
     (subst (λ n. Budget ledger file (l .i + 1) (to .to .result .account + 1) n) (sym (c .on .ensures .1 .1)) spent) in

@@ -36,7 +36,9 @@ loop-holds c =
     let ledger = start .pre .0 in
     let count = c .start .ensures .1 .0 ∙ said _ _ (ledger .says) .count in
     let said-count = said _ _ (ledger .says) .count in
-    let budget = budget-begins (start .args .ledger .now) (start .args .file .now) (start .pre .1 .read) (c .start .result .budget) (c .start .result .account) (omega (arith, c .start .ensures .1 .1, said-count)) (c .start .ensures .0) in
+    let budget = budget-begins (start .args .ledger .now) (start .args .file .now) (start .pre .1 .read)
+    (c .start .result .budget) (c .start .result .account) (omega (arith, c .start .ensures .1 .1, said-count))
+    (c .start .ensures .0) in
     let from = unknownFrom (start .args .ledger .now) (start .args .file .now) 0 in
     let first = ap (λ j. from j) (sym (c .start .ensures .0)) in
     (omega arith, (omega (arith, c .start .ensures), (count, (unknown-start _ _ (read-rises ledger) ∙ first, budget))))
@@ -52,7 +54,8 @@ to-requires c κs =
     let inv = loop .loop .inv .1 in
     let room = walk-room (start .pre .0) _ (inv .1 .0) in
     let enough =
-    row-enough (start .args .ledger .now) (start .args .file .now) (start .pre .1 .read) (loop .loop .i) (loop .loop .walk .account)
+    row-enough (start .args .ledger .now) (start .args .file .now) (start .pre .1 .read) (loop .loop .i)
+    (loop .loop .walk .account)
     (loop .loop .walk .budget) (inv .1 .1 .1) (c .before .if1 .taken) (c .row-at .ensures) refl in
     (inv .1 .0, (room .0, (room .1, (inv .0, enough))))
 
@@ -105,8 +108,10 @@ loop-again c =
     (row .before .if1 .taken) (row .row-at .ensures)
     (walk .account) (to .to .ensures .0) (omega (arith, more, inv .0, to .to .ensures .1 .0)) in
     let spent =
-    row-spends ledger file (start .pre .1 .read) (loop .loop .i) (loop .loop .walk .account) (loop .loop .walk .budget) (inv .1 .1)
-    (row .before .if1 .taken) (row .row-at .ensures) refl (walk .account) (walk .budget) (to .to .ensures .0) (to .to .ensures .1 .1 .1) in
+    row-spends ledger file (start .pre .1 .read) (loop .loop .i) (loop .loop .walk .account) (loop .loop .walk .budget)
+    (inv .1 .1)
+    (row .before .if1 .taken) (row .row-at .ensures) refl (walk .account) (walk .budget) (to .to .ensures .0)
+    (to .to .ensures .1 .1 .1) in
     let kept =
     subst (λ n. Budget ledger file (loop .loop .i + 1) n (c .on .result .budget)) (sym (on .0))
     (subst (λ n. Budget ledger file (loop .loop .i + 1) (walk .account + 1) n) (sym (on .1 .1)) spent) in

@@ -133,7 +133,8 @@ loop-holds c =
     let start = c .before .before .before .before in
     let p = pre .0 in
     let budget =
-    budget-begins (start .args .ledger .now) (start .args .file .now) (p .tabled .read) (c .start .result .budget) (c .start .result .account)
+    budget-begins (start .args .ledger .now) (start .args .file .now) (p .tabled .read) (c .start .result .budget)
+    (c .start .result .account)
     (omega (arith, c .start .ensures .1 .1, accounts-are p)) (c .start .ensures .0) in
     (refl, (omega (arith, c .start .ensures .0), (rw (c .start .ensures .0) begun, budget)))
 
@@ -152,7 +153,8 @@ to-requires c κs =
     let count = sym (count-kept (passed t) (bytes t) posting) in
     let start = t .before .before .before .before .before .before .before in
     let enough =
-    row-enough (start .args .ledger .now) (start .args .file .now) (passed t .tabled .read) (l .i) (l .walk .account) (l .walk .budget)
+    row-enough (start .args .ledger .now) (start .args .file .now) (passed t .tabled .read) (l .i) (l .walk .account)
+    (l .walk .budget)
     (l .inv .1 .1 .1) (t .if1 .taken) (c .before .row-at .ensures) (ids-kept (passed t) (bytes t) posting) in
     (all ∙ accounts-are (passed t) ∙ count, (lies, (omega (arith, all, ledger-read .few), (l .inv .1 .0, enough))))
 
@@ -251,8 +253,10 @@ loop-again c =
     let ledger = start .args .ledger .now in
     let file = start .args .file .now in
     let spent =
-    row-spends ledger file (p .tabled .read) (l .i) (l .walk .account) (l .walk .budget) (l .inv .1 .1 .1) (t .if1 .taken) (row .row-at .ensures)
-    (ids-kept p (bytes t) (pass t .posting)) (to .to .result .account) (to .to .result .budget) (to .to .ensures .0) (to .to .ensures .1 .1 .1) in
+    row-spends ledger file (p .tabled .read) (l .i) (l .walk .account) (l .walk .budget) (l .inv .1 .1 .1)
+    (t .if1 .taken) (row .row-at .ensures)
+    (ids-kept p (bytes t) (pass t .posting)) (to .to .result .account) (to .to .result .budget) (to .to .ensures .0)
+    (to .to .ensures .1 .1 .1) in
     let left =
     subst (λ n. Budget ledger file (l .i + 1) n (c .on .result .budget)) (sym (c .on .ensures .0))
     (subst (λ n. Budget ledger file (l .i + 1) (to .to .result .account + 1) n) (sym (c .on .ensures .1 .1)) spent) in

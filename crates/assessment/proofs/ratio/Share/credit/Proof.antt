@@ -1,4 +1,5 @@
--- `assessment::ratio::Share::credit` meets its contract. A share is the quotient of bonus times pool over the total bonus.
+-- `assessment::ratio::Share::credit` meets its contract.
+-- A share is the quotient of bonus times pool over the total bonus.
 use native.Mathlib.Nat.{mul-le-mul}
 use native.Mathlib.Omega.{arith}
 use Rattle.assessment.specs.Assessment.{share}

@@ -1,4 +1,5 @@
--- `assessment::units::Kilowatts::or_none` meets its contract. The sign is tested; a number that is not negative is its own size.
+-- `assessment::units::Kilowatts::or_none` meets its contract. The sign is tested;
+-- a number that is not negative is its own size.
 use Prim.Native.Nat.{_≤_}
 use mathlib.Core.Path.{_≡_, refl, sym}
 use mathlib.Core.Bool.{true, false, true≢false}

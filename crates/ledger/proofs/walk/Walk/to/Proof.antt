@@ -1,4 +1,5 @@
--- `ledger::walk::Walk::to` meets its contract. The invariant: the id, if it is still to come, stands where a walk from the first place on finds it.
+-- `ledger::walk::Walk::to` meets its contract. The invariant:
+-- the id, if it is still to come, stands where a walk from the first place on finds it.
 use Prim.Native.Nat.{_+_, _-_, _≤_}
 use mathlib.Core.Path.{_≡_, refl, sym, _∙_}
 use native.Mathlib.Omega.{arith}
@@ -8,7 +9,15 @@ use Rattle.ledger.specs.Ledger.{ledgerBytes, ledgerOf, idsIn}
 use Rattle.ledger.specs.Values.{before}
 use Rattle.ledger.specs.Walk.{comparisons}
 use Rattle.ledger.proofs.Accounts.{ids-turn, ids-end}
-use Rattle.ledger.proofs.WalkLaws.{walk-stops, walk-passes, walk-ends, one-comparison, comparison-more, some-comparison, no-comparison}
+use Rattle.ledger.proofs.WalkLaws.{
+  walk-stops,
+  walk-passes,
+  walk-ends,
+  one-comparison,
+  comparison-more,
+  some-comparison,
+  no-comparison,
+}
 use Rattle.ledger.proofs.walk.Walk.to.Statement.{statement}
 use Rattle.ledger.proofs.walk.Walk.to.Tie as tie
 
@@ -47,8 +56,10 @@ returns c =
     let start = at .before .before in
     let b = start .args .ledger .now in
     let turn = ids-turn b (at .loop .j) (omega arith) in
-    let here = walk-stops (start .args .id) (idsIn (ledgerOf b)) (at .loop .j) turn (sym (c .before .before .account-id .ensures) ∙ c .before .if2 .taken) in
-    let one = one-comparison (start .args .id) (idsIn (ledgerOf b)) (at .loop .j) turn (sym (c .before .before .account-id .ensures) ∙ c .before .if2 .taken) in
+    let here = walk-stops (start .args .id) (idsIn (ledgerOf b)) (at .loop .j) turn
+    (sym (c .before .before .account-id .ensures) ∙ c .before .if2 .taken) in
+    let one = one-comparison (start .args .id) (idsIn (ledgerOf b)) (at .loop .j) turn
+    (sym (c .before .before .account-id .ensures) ∙ c .before .if2 .taken) in
     let left = at .loop .inv .2 in
     (omega (arith, here, at .loop .inv .1), (search needs, (search needs, omega (arith, one, left))))
 
@@ -64,8 +75,10 @@ loop-again c =
     let start = at .before .before in
     let b = start .args .ledger .now in
     let turn = ids-turn b (at .loop .j) (omega arith) in
-    let on = walk-passes (start .args .id) (idsIn (ledgerOf b)) (at .loop .j) turn (λ e. c .if2 .left (c .before .account-id .ensures ∙ e)) in
-    let more = comparison-more (start .args .id) (idsIn (ledgerOf b)) (at .loop .j) turn (λ e. c .if2 .left (c .before .account-id .ensures ∙ e)) in
+    let on = walk-passes (start .args .id) (idsIn (ledgerOf b)) (at .loop .j) turn
+    (λ e. c .if2 .left (c .before .account-id .ensures ∙ e)) in
+    let more = comparison-more (start .args .id) (idsIn (ledgerOf b)) (at .loop .j) turn
+    (λ e. c .if2 .left (c .before .account-id .ensures ∙ e)) in
     (search needs, at .loop .inv .1 ∙ on, omega (arith, more, at .loop .inv .2))
 
 at-requires-2 : tie.Need-at-requires-2 Inv-loop μ-loop
@@ -77,7 +90,8 @@ returns-2 c =
     let start = at .before .before in
     let b = start .args .ledger .now in
     let none = walk-ends (start .args .id) (idsIn (ledgerOf b)) (at .loop .j) (ids-end b (at .loop .j) (omega arith)) in
-    let done = no-comparison (start .args .id) (idsIn (ledgerOf b)) (at .loop .j) (ids-end b (at .loop .j) (omega arith)) in
+    let done = no-comparison (start .args .id) (idsIn (ledgerOf b)) (at .loop .j)
+    (ids-end b (at .loop .j) (omega arith)) in
     (omega (arith, none, at .loop .inv .1), (search needs, (search needs, omega (arith, done, at .loop .inv .2))))
 
 pub to-spec : {M : Type 1} → statement M
