@@ -6,11 +6,11 @@ ghost use Rattle.reading.specs.Interval.{most_kilowatts};
 ghost use Rattle.reading.specs.Values.{terms_in};
 ghost use Rattle.assessment.specs.Assessment.{
   empty_account,
-  raised as raisedOf,
-  added as addedOf,
-  limit as limitOf,
+  raised as raised_of,
+  added as added_of,
+  limit as limit_of,
   full_charge,
-  charge as chargeOf,
+  charge as charge_of,
 };
 ghost use Rattle.assessment.specs.Values.{account_in};
 
@@ -33,7 +33,7 @@ const TRANSITION_LIMIT_DIVISOR: u64 = 4000;
 const TRANSITION_CHARGE_DIVISOR: u64 = 720000;
 
 // An account: its id, the largest commitment so far, and the sums charged and credited.
-#[derive(Drop)]
+#[derive(Clone, Copy)]
 pub struct Account {
     pub id: u64,
     pub largest: Kilowatts,
@@ -45,7 +45,7 @@ pub struct Account {
 pub fn limit(terms: Terms, kw: Kilowatts) -> Cents
     requires terms_value { terms_outside (terms_in terms) ≡ false }
     requires kw_le_most_kilowatts { kw.0 ≤ most_kilowatts }
-    ensures { result.0 ≡ limitOf (terms_in terms) kw.0 }
+    ensures { result.0 ≡ limit_of (terms_in terms) kw.0 }
 {
     let product = LIMIT_FACTOR * terms.net_cone * terms.days * kw.0;
     let year = terms.year;
@@ -86,7 +86,7 @@ impl Account {
 
     // The account with its largest commitment raised to so many kW, if that is larger.
     pub fn raised(self, kw: Kilowatts) -> Account
-        ensures { account_in result ≡ raisedOf kw.0 (account_in self) }
+        ensures { account_in result ≡ raised_of kw.0 (account_in self) }
     {
         let charged = self.charged;
         let credited = self.credited;
@@ -103,7 +103,7 @@ impl Account {
         requires terms_value { terms_outside (terms_in terms) ≡ false }
         requires largest_le_most_kilowatts { self.largest.0 ≤ most_kilowatts }
         requires short_le_most_kilowatts { short.0 ≤ most_kilowatts }
-        ensures { result.0 ≡ chargeOf (terms_in terms) (account_in self) short.0 }
+        ensures { result.0 ≡ charge_of (terms_in terms) (account_in self) short.0 }
     {
         let left = limit(terms, self.largest).less(self.charged);
         full_charge(terms, short).lesser(left)
@@ -113,7 +113,7 @@ impl Account {
     pub fn added(self, charge: Cents, credit: Cents) -> Account
         requires charge_bound { self.charged.0 + charge.0 < 2 ^ 64 }
         requires credit_bound { self.credited.0 + credit.0 < 2 ^ 64 }
-        ensures { account_in result ≡ addedOf charge.0 credit.0 (account_in self) }
+        ensures { account_in result ≡ added_of charge.0 credit.0 (account_in self) }
     {
         let largest = self.largest;
         Account {

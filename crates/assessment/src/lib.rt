@@ -1,5 +1,7 @@
 // What the rules make of the rows of one interval.
 
+#![tactic(auto)]
+
 pub mod account;
 pub mod balancing;
 mod curve;

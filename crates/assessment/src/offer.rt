@@ -15,14 +15,14 @@ ghost use Rattle.reading.specs.Values.{row_in, Tabled, Sound};
 ghost use Rattle.assessment.specs.Assessment.{
   from_last_reached,
   dispatched_curve,
-  scheduled as scheduledOf,
+  scheduled as scheduled_of,
   first_kw,
   bonus_cut,
   looks_at,
   counted_for,
   economic_scheduled,
-  available as availableOf,
-  considered as consideredOf,
+  available as available_of,
+  considered as considered_of,
 };
 
 use crate::curve::{consumes, scheduled};
@@ -34,7 +34,7 @@ use reading::rows::{
 };
 
 // Of a row of kind 0 or 4: to what its actual is cut for the bonus, and the scheduled kW of the economic rule.
-#[derive(Drop)]
+#[derive(Clone, Copy)]
 pub struct Offer {
     pub cut: Kilowatts,
     pub economic: Kilowatts,
@@ -43,7 +43,7 @@ pub struct Offer {
 // Owned kW without both outages.
 pub fn available(row: Row) -> Kilowatts
     requires { row_outside (row_in row) ≡ false }
-    ensures { (ss : List Schedule) → result.0 ≡ availableOf (row_with (row_in row) ss) }
+    ensures { (ss : List Schedule) → result.0 ≡ available_of (row_with (row_in row) ss) }
 {
     let out = Kilowatts(row.planned).plus(Kilowatts(row.forced));
     Kilowatts(row.owned).less(out)
@@ -82,7 +82,7 @@ fn highest(file: &[u8], h: Header, row: Row, on: u64, own: Kilowatts) -> Kilowat
     requires sound { Sound file.now (row_in row) }
     requires dispatched_in_bounds { row.dispatched < length (schedules_named file.now (row_in row)) }
     requires on_value { on ≡ (schedule_at file.now (row_in row) row.dispatched).kind }
-    requires own_value { own.0 ≡ scheduledOf (row_of file.now (row_in row)) }
+    requires own_value { own.0 ≡ scheduled_of (row_of file.now (row_in row)) }
     ensures { result.0 ≡ economic_scheduled (row_of file.now (row_in row)) }
 {
     let count = schedules(h, row);
@@ -141,7 +141,7 @@ fn responds(file: &[u8], h: Header, row: Row) -> bool
 pub fn considered(file: &[u8], h: Header, row: Row) -> bool
     requires tabled { Tabled file.now h }
     requires sound { Sound file.now (row_in row) }
-    ensures { result ≡ consideredOf h.region_wide (row_of file.now (row_in row)) }
+    ensures { result ≡ considered_of h.region_wide (row_of file.now (row_in row)) }
 {
     let kind = row.kind;
     match kind {

@@ -2,7 +2,7 @@
 
 ghost use Rattle.std.specs.Prelude.{◌≡◌, cond, ◌*◌, ◌/◌, ◌≤◌, ◌<◌, ◌^◌, eqb};
 ghost use Rattle.reading.specs.Interval.{most_kilowatts};
-ghost use Rattle.assessment.specs.Assessment.{most_cents, portion as portionOf, printed_ratio, share as share_of};
+ghost use Rattle.assessment.specs.Assessment.{most_cents, portion as portion_of, printed_ratio, share as share_of};
 ghost use Rattle.assessment.specs.Values.{most_actual, most_numerator, ratio_in};
 
 use crate::units::{Cents, Kilowatts};
@@ -11,14 +11,14 @@ use crate::units::{Cents, Kilowatts};
 const MILLIONTHS: u64 = 1000000;
 
 // The two sides of the balancing ratio.
-#[derive(Drop)]
+#[derive(Clone, Copy)]
 pub struct Ratio {
     pub numerator: Kilowatts,
     pub denominator: Kilowatts,
 }
 
 // The cents that a total bonus shares.
-#[derive(Drop)]
+#[derive(Clone, Copy)]
 pub struct Share {
     pub pool: Cents,
     pub bonus: Kilowatts,
@@ -40,7 +40,7 @@ impl Ratio {
     pub fn portion(self, kw: Kilowatts) -> Kilowatts
         requires numerator_le_most_numerator { self.numerator.0 ≤ most_numerator }
         requires kw_le_most_kilowatts { kw.0 ≤ most_kilowatts }
-        ensures { result.0 ≡ portionOf (ratio_in self) kw.0 }
+        ensures { result.0 ≡ portion_of (ratio_in self) kw.0 }
     {
         let part = quotient(kw.0, self.numerator.0, self.denominator.0);
         Kilowatts(part).lesser(kw)

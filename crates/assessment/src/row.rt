@@ -5,8 +5,8 @@ ghost use Rattle.std.specs.Prelude.{◌≡◌, false, List, ◌⊎◌, ◌+◌, 
 ghost use Rattle.reading.specs.Interval.{most_kilowatts, Schedule, row_with, row_of, row_outside};
 ghost use Rattle.reading.specs.Values.{row_in, Tabled, Sound};
 ghost use Rattle.assessment.specs.Assessment.{
-  actual as actualOf,
-  expected as expectedOf,
+  actual as actual_of,
+  expected as expected_of,
   bonus_cut,
   economic_rule,
   row_figures,
@@ -22,7 +22,7 @@ use reading::header::Header;
 use reading::rows::{DEMAND, EFFICIENCY, ENERGY_ONLY, GENERATION, RESPONSIVE, Row};
 
 // The first six words of a row in the result.
-#[derive(Drop)]
+#[derive(Clone, Copy)]
 pub struct Figures {
     pub expected: Kilowatts,
     pub actual: Kilowatts,
@@ -35,7 +35,7 @@ pub struct Figures {
 // Actual: metered plus adjustment, or 0 if that is negative.
 fn actual(row: Row) -> Kilowatts
     requires { row_outside (row_in row) ≡ false }
-    ensures result_value { (ss : List Schedule) → result.0 ≡ actualOf (row_with (row_in row) ss) }
+    ensures result_value { (ss : List Schedule) → result.0 ≡ actual_of (row_with (row_in row) ss) }
     ensures result_le_most_actual { result.0 ≤ most_actual }
 {
     Kilowatts::or_none(row.metered + row.adjustment)
@@ -45,7 +45,7 @@ fn actual(row: Row) -> Kilowatts
 fn expected(row: Row, ratio: Ratio) -> Kilowatts
     requires row_value { row_outside (row_in row) ≡ false }
     requires numerator_le_most_numerator { ratio.numerator.0 ≤ most_numerator }
-    ensures { (ss : List Schedule) → result.0 ≡ expectedOf (ratio_in ratio) (row_with (row_in row) ss) }
+    ensures { (ss : List Schedule) → result.0 ≡ expected_of (ratio_in ratio) (row_with (row_in row) ss) }
 {
     let kind = row.kind;
     match kind {
@@ -61,7 +61,7 @@ fn expected(row: Row, ratio: Ratio) -> Kilowatts
 fn produced(file: &[u8], h: Header, row: Row, act: Kilowatts, expect: Kilowatts) -> Figures
     requires tabled { Tabled file.now h }
     requires sound { Sound file.now (row_in row) }
-    requires act_value { act.0 ≡ actualOf (row_of file.now (row_in row)) }
+    requires act_value { act.0 ≡ actual_of (row_of file.now (row_in row)) }
     ensures { let r = row_of file.now (row_in row) in
         figures_in result ≡ record {
           expected = expect.0;
@@ -146,7 +146,7 @@ pub fn row_figures(file: &[u8], h: Header, row: Row, ratio: Ratio) -> Figures
 fn reduction(file: &[u8], h: Header, row: Row, act: Kilowatts) -> Kilowatts
     requires tabled { Tabled file.now h }
     requires sound { Sound file.now (row_in row) }
-    requires act_value { act.0 ≡ actualOf (row_of file.now (row_in row)) }
+    requires act_value { act.0 ≡ actual_of (row_of file.now (row_in row)) }
     requires fact { (row.kind ≡ 0) ⊎ (row.kind ≡ 4) → ⊥ }
     ensures { result.0 ≡ numerator_share h.region_wide (row_of file.now (row_in row)) }
 {

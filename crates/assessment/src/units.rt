@@ -4,10 +4,10 @@ ghost use Rattle.std.specs.Prelude.{◌≡◌, ◌+◌, ◌-◌, ◌<◌, ◌≤
 ghost use Rattle.std.specs.Int.Signed.{mag};
 ghost use Rattle.assessment.specs.Assessment.{or_zero};
 
-#[derive(Drop)]
+#[derive(Clone, Copy)]
 pub struct Kilowatts(pub u64);
 
-#[derive(Drop)]
+#[derive(Clone, Copy)]
 pub struct Cents(pub u64);
 
 fn lesser(a: u64, b: u64) -> u64

@@ -1,6 +1,8 @@
 // Document 01's listing, and the cases that it does not mark (P), through opening and settling as C calls them:
 // each answer, and the words that a call leaves. The buffers begin with every byte 255.
 
+#![tactic(auto)]
+
 mod left;
 
 ghost use Rattle.std.specs.Prelude.{◌≡◌, ◌≤◌, length};

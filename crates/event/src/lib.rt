@@ -1,7 +1,9 @@
 // A whole event in one call: files one after the other, each after its length.
 
+#![tactic(auto)]
+
 ghost use Rattle.std.specs.Prelude.{◌≡◌, ◌+◌, ◌≤◌, ◌<◌, length};
-ghost use Rattle.event.specs.Event.{settled_files, event as eventOf};
+ghost use Rattle.event.specs.Event.{settled_files, event as event_of};
 ghost use Rattle.event.specs.Code.{FileDue, TurnTaken, FilesSettled};
 
 use reading::header::header_of;
@@ -13,7 +15,7 @@ use words::{number32, put64};
 const COUNT_BYTES: usize = 8;
 
 // Where the file that is due stands, if it is whole.
-#[derive(Drop)]
+#[derive(Clone, Copy)]
 struct Place {
     whole: bool,
     from: usize,
@@ -21,16 +23,16 @@ struct Place {
 }
 
 // What the turn of a file leaves: 0 or its ground, and where the results end.
-#[derive(Drop)]
+#[derive(Clone, Copy)]
 struct Turn {
-    ground: u32,
+    refusal: u32,
     filled: usize,
 }
 
 // 0 or the ground of the file that was refused, and the number of files settled.
-#[derive(Drop)]
+#[derive(Clone, Copy)]
 struct Settled {
-    ground: u32,
+    refusal: u32,
     files: u64,
 }
 
@@ -71,11 +73,11 @@ fn settle_next(ledger: &mut [u8], file: &[u8], res: &mut [u8], filled: usize) ->
 {
     let ground = settle_file(ledger, file, &mut res[filled..]);
     if ground != 0 {
-        return Turn { ground, filled };
+        return Turn { refusal: ground, filled };
     }
     let rows = header_of(file).rows;
     Turn {
-        ground,
+        refusal: ground,
         filled: filled + result_bytes(rows),
     }
 }
@@ -94,16 +96,16 @@ fn settle_files(ledger: &mut [u8], files: &[u8], res: &mut [u8]) -> Settled
         let place = next_file(files, at);
         if !place.whole {
             return Settled {
-                ground: 22,
+                refusal: 22,
                 files: settled,
             };
         }
         let from = place.from;
         let to = place.to;
         let turn = settle_next(ledger, &files[from..to], res, filled);
-        if turn.ground != 0 {
+        if turn.refusal != 0 {
             return Settled {
-                ground: turn.ground,
+                refusal: turn.refusal,
                 files: settled,
             };
         }
@@ -112,7 +114,7 @@ fn settle_files(ledger: &mut [u8], files: &[u8], res: &mut [u8]) -> Settled
         at = to;
     }
     Settled {
-        ground: 0,
+        refusal: 0,
         files: settled,
     }
 }
@@ -120,18 +122,18 @@ fn settle_files(ledger: &mut [u8], files: &[u8], res: &mut [u8]) -> Settled
 // Settles an event, and writes how many of its files were settled: answers 0, the ground of the first file refused,
 // or 20 where there is no room for that number.
 pub fn settle_event(ledger: &mut [u8], files: &[u8], res: &mut [u8], count: &mut [u8]) -> u32
-    ensures answer { result ≡ (eventOf ledger.old files.now res.old count.old).ground }
+    ensures answer { result ≡ (event_of ledger.old files.now res.old count.old).refusal }
     ensures ledger_bytes { ledger.new
-        ≡ (eventOf ledger.old files.now res.old count.old).ledger }
+        ≡ (event_of ledger.old files.now res.old count.old).ledger }
     ensures result_bytes { res.new
-        ≡ (eventOf ledger.old files.now res.old count.old).result }
+        ≡ (event_of ledger.old files.now res.old count.old).result }
     ensures count_bytes { count.new
-        ≡ (eventOf ledger.old files.now res.old count.old).count }
+        ≡ (event_of ledger.old files.now res.old count.old).count }
 {
     if count.len() < COUNT_BYTES {
         return 20;
     }
     let settled = settle_files(ledger, files, res);
     put64(count, 0, settled.files);
-    settled.ground
+    settled.refusal
 }

@@ -34,7 +34,7 @@ pub const MOST_LEDGER_BYTES: usize = STANDING_BYTES + ACCOUNT_BYTES * MOST_IDS a
 
 // What stands before the accounts: the terms, the earliest interval still accepted,
 // the cents carried and the number of accounts.
-#[derive(Drop)]
+#[derive(Clone, Copy)]
 pub struct Standing {
     pub terms: Terms,
     pub earliest: u64,

@@ -78,7 +78,7 @@ fn write_opened(block: &[u8], b: Block, ledger: &mut [u8])
 
 // Opens a ledger: answers 0, or the first ground of opening that applies and leaves the ledger as it was.
 pub fn open(block: &[u8], ledger: &mut [u8]) -> u32
-    ensures answer { result ≡ (opening_of block.now ledger.old).ground }
+    ensures answer { result ≡ (opening_of block.now ledger.old).refusal }
     ensures buffer { ledger.new ≡ (opening_of block.now ledger.old).ledger }
 {
     let ground = opening_ground(block, ledger);

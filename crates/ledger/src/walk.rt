@@ -10,7 +10,7 @@ ghost use Rattle.ledger.specs.Walk.{comparisons};
 use crate::layout::{Standing, account_id};
 
 // How far a pass has come down the accounts, and how many comparisons of a row's id with an account's it has left.
-#[derive(Drop)]
+#[derive(Clone, Copy)]
 pub struct Walk {
     pub account: usize,
     pub accounts: usize,

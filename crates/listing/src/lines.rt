@@ -24,7 +24,7 @@ pub const ROW_ROOM: usize = 10 * FIELD_ROOM;
 pub const POOL_ROOM: usize = 5 + 5 * FIELD_ROOM;
 
 // What a plant's year line says.
-#[derive(Drop)]
+#[derive(Clone, Copy)]
 pub struct YearFigures {
     pub id: u64,
     pub shortfall: Kilowatts,
@@ -100,15 +100,15 @@ pub fn put_last(out: &mut [u8], at: usize, v: u64) -> usize
 }
 
 // Writes the line of a refused block.
-pub fn put_refused(out: &mut [u8], at: usize, block: u64, ground: u64) -> usize
+pub fn put_refused(out: &mut [u8], at: usize, block: u64, refusal: u64) -> usize
     requires { at + refused_room ≤ length out.old }
-    ensures out_after { out.new ≡ placed_at at (bytes_of_line (Line.refused block ground)) out.old }
-    ensures value { result ≡ at + length (bytes_of_line (Line.refused block ground)) }
+    ensures out_after { out.new ≡ placed_at at (bytes_of_line (Line.refused block refusal)) out.old }
+    ensures value { result ≡ at + length (bytes_of_line (Line.refused block refusal)) }
     ensures upper_bound { result ≤ at + refused_room }
 {
     let first = put_text(out, at, b"refused,");
     let second = put_field(out, first, block);
-    put_last(out, second, ground)
+    put_last(out, second, refusal)
 }
 
 // Writes the line of a stream that is cut off.

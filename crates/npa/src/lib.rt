@@ -1,5 +1,7 @@
 // What a C program links: opening and settling, a file or a whole event, byte slices in, one number out.
 
+#![tactic(auto)]
+
 ghost use Rattle.std.specs.Prelude.{◌≡◌};
 ghost use Rattle.ledger.specs.Opening.{opening};
 ghost use Rattle.settling.specs.Settling.{settling};
@@ -13,7 +15,7 @@ use settling::call::settle_file;
 // and leaves the ledger as it was.
 #[unsafe(no_mangle)]
 pub extern "C" fn npa_open(block: &[u8], ledger: &mut [u8]) -> u32
-    ensures answer { result ≡ (opening block.now ledger.old).ground }
+    ensures answer { result ≡ (opening block.now ledger.old).refusal }
     ensures buffer { ledger.new ≡ (opening block.now ledger.old).ledger }
 {
     open(block, ledger)
@@ -23,7 +25,7 @@ pub extern "C" fn npa_open(block: &[u8], ledger: &mut [u8]) -> u32
 // and leaves ledger and result as they were.
 #[unsafe(no_mangle)]
 pub extern "C" fn npa_settle(ledger: &mut [u8], file: &[u8], res: &mut [u8]) -> u32
-    ensures answer { result ≡ (settling ledger.old file.now res.old).ground }
+    ensures answer { result ≡ (settling ledger.old file.now res.old).refusal }
     ensures ledger_bytes { ledger.new ≡ (settling ledger.old file.now res.old).ledger }
     ensures result_bytes { res.new ≡ (settling ledger.old file.now res.old).result }
 {
@@ -39,7 +41,7 @@ pub extern "C" fn npa_event(
     res: &mut [u8],
     count: &mut [u8],
 ) -> u32
-    ensures answer { result ≡ (event ledger.old files.now res.old count.old).ground }
+    ensures answer { result ≡ (event ledger.old files.now res.old count.old).refusal }
     ensures ledger_bytes { ledger.new
         ≡ (event ledger.old files.now res.old count.old).ledger }
     ensures result_bytes { res.new

@@ -1,5 +1,7 @@
 // npalist: reads an opening block and interval files from standard input, settles them, and prints a listing.
 
+#![tactic(auto)]
+
 ghost use Rattle.std.specs.Prelude.{◌≡◌, ◌++◌, ◌≤◌, length, take};
 ghost use Rattle.stream.specs.Stream.{length_bytes};
 ghost use Rattle.stream.specs.Code.{StepTaken};
@@ -18,7 +20,7 @@ use stream::{LENGTH_BYTES, Taken};
 const MOST_BLOCKS: u64 = 1099511627776;
 
 // What was read for a step, and what the step leaves to be done.
-#[derive(Drop)]
+#[derive(Clone, Copy)]
 struct Step {
     read: Read,
     taken: Taken,

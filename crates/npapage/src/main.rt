@@ -1,5 +1,7 @@
 // npapage: reads a plant's id, and then the stream that npalist reads, settles it, and prints the plant's page.
 
+#![tactic(auto)]
+
 ghost use Rattle.std.specs.Prelude.{◌≡◌, true, ◌++◌, ◌+◌, ◌≤◌, ◌<◌, length, take};
 ghost use Rattle.stream.specs.Stream.{length_bytes};
 ghost use Rattle.stream.specs.Code.{StepTaken};
@@ -21,21 +23,21 @@ use standard::{Read, print, read_next, read_word};
 use stream::Taken;
 
 // How many bytes were read of the id word, and what the step on them leaves to be done.
-#[derive(Drop)]
+#[derive(Clone, Copy)]
 struct IdRead {
     got: usize,
     step: IdStep,
 }
 
 // What was read for the opening, and what the step on it leaves to be done.
-#[derive(Drop)]
+#[derive(Clone, Copy)]
 struct OpeningRead {
     read: Read,
     taken: Taken,
 }
 
 // What was read for an interval, and what the step on it leaves to be done.
-#[derive(Drop)]
+#[derive(Clone, Copy)]
 struct IntervalRead {
     read: Read,
     step: PageStep,

@@ -21,7 +21,7 @@ use reading::rows::row_at;
 use settling::result::Balance;
 
 // A plant, and the shortfall and the bonus that its lines add up to.
-#[derive(Drop)]
+#[derive(Clone, Copy)]
 pub struct Page {
     pub id: u64,
     pub shortfall: Kilowatts,

@@ -37,14 +37,14 @@ pub const MOST_BLOCKS: u64 = 1099511627776;
 pub const STEP_ROOM: usize = ROW_ROOM;
 
 // What the step on the id word leaves to be done, and the id.
-#[derive(Drop)]
+#[derive(Clone, Copy)]
 pub struct IdStep {
     pub taken: Taken,
     pub id: u64,
 }
 
 // What the step on an interval leaves to be done, and the page after it.
-#[derive(Drop)]
+#[derive(Clone, Copy)]
 pub struct PageStep {
     pub taken: Taken,
     pub page: Page,

@@ -84,7 +84,7 @@ none_place p d (x ∷ xs) (suc k) e h = none_place p d xs k (not_second (p x) (a
 pub each_mapped : {A B : Type 0} (p : A → Bool) (g : A → B) (P : B → Type 0) → ((x : A) → p x ≡ false → P (g x))
     → (xs : List A) → any p xs ≡ false → (y : B) → Memᴰ y (map g xs) → P y
 unfolding any
-each_mapped p g P each [] e y m = absurd (Memᴰ.not_nil m)
+each_mapped p g P each [] e y m = absurd (Memᴰ.not-nil m)
 each_mapped p g P each (x ∷ xs) e y m =
     ⊎_elim
     (λ q. rw q (each x (not_first (p x) (any p xs) e)))

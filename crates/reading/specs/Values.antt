@@ -52,7 +52,7 @@ table_in s = record { at = s.at; bytes = s.bytes }
 
 -- the sizes that a value says
 unfoldable pub layout_in : LayoutValue → Layout
-layout_in l = record { header_bytes = l.header_bytes; row_bytes = l.row_bytes; most_bytes = l.most_bytes_hold }
+layout_in l = record { header_bytes = l.header_bytes; row_bytes = l.row_bytes; most_bytes = l.most_bytes }
 
 -- the header that a value says
 unfoldable pub header_in : HeaderValue → Header

@@ -48,7 +48,7 @@ const LAST_YEAR: u64 = 2023;
 
 // The terms of a delivery year: Net CONE in cents per MW-day, days, and the calendar year in which it starts,
 // 0 where none is named.
-#[derive(Drop)]
+#[derive(Clone, Copy)]
 pub struct Terms {
     pub net_cone: u64,
     pub days: u64,
@@ -56,7 +56,7 @@ pub struct Terms {
 }
 
 // What a block says before its ids: of these the number and the byte offset.
-#[derive(Drop)]
+#[derive(Clone, Copy)]
 pub struct Block {
     pub format: u64,
     pub terms: Terms,

@@ -1,7 +1,7 @@
 // The interval file's header and the place of its tables, in both formats: its values, and grounds 7, 9 and 11.
 
 ghost use Rattle.std.specs.Prelude.{◌≡◌, ◌+◌, ◌≤◌, ◌<◌, ◌^◌, length};
-ghost use Rattle.words.specs.Grounds.{beyond as beyondOf};
+ghost use Rattle.words.specs.Grounds.{beyond as beyond_of};
 ghost use Rattle.words.specs.Words.{number_at};
 ghost use Rattle.reading.specs.Block.{leap_year};
 ghost use Rattle.reading.specs.Interval.{
@@ -46,7 +46,7 @@ pub const POINT_BYTES: usize = 8;
 pub const SCHEDULE_BYTES: usize = 12;
 
 // The sizes in which the formats differ.
-#[derive(Drop)]
+#[derive(Clone, Copy)]
 pub struct Layout {
     pub header_bytes: usize,
     pub row_bytes: usize,
@@ -72,7 +72,7 @@ pub fn layout_of(format: u64) -> Layout
 }
 
 // The header: its values, and of each table the number of entries and the byte offset.
-#[derive(Drop)]
+#[derive(Clone, Copy)]
 pub struct Header {
     pub format: u64,
     pub interval: u64,
@@ -141,7 +141,7 @@ pub fn not_a_file(file: &[u8]) -> bool
 // Whether a signed number lies outside -most to most.
 pub fn beyond(z: i64, most: u64) -> bool
     requires { most < 2 ^ 63 }
-    ensures { result ≡ beyondOf most z }
+    ensures { result ≡ beyond_of most z }
 {
     let high = most as i64;
     if z < -high {

@@ -1,5 +1,7 @@
 // What an opening block and an interval file say. No other crate knows where a word of them stands.
 
+#![tactic(auto)]
+
 pub mod block;
 pub mod header;
 pub mod rows;

@@ -49,7 +49,7 @@ pub const COST: u64 = 3;
 
 // A row's words. The last three name its points in format 1,
 // in format 2 its schedules and the one that it was dispatched on.
-#[derive(Drop)]
+#[derive(Clone, Copy)]
 pub struct Row {
     pub id: u64,
     pub kind: u64,
@@ -69,7 +69,7 @@ pub struct Row {
 }
 
 // A schedule's kind, its first point and the number of its points.
-#[derive(Drop)]
+#[derive(Clone, Copy)]
 pub struct Schedule {
     pub kind: u64,
     pub first: usize,
@@ -77,7 +77,7 @@ pub struct Schedule {
 }
 
 // A price in cents per MWh, and kW.
-#[derive(Drop)]
+#[derive(Clone, Copy)]
 pub struct Point {
     pub price: i64,
     pub kw: u64,

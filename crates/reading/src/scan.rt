@@ -13,7 +13,7 @@ ghost use Rattle.reading.specs.Interval.{
   kind_outside,
   schedules_outside,
   point_outside,
-  falls as fallsOf,
+  falls as falls_of,
   curve_misplaced,
   point_refused,
   row_grounds,
@@ -175,7 +175,7 @@ fn point_outside(p: Point) -> bool
 
 // Whether the price or the kW falls from one point to the next.
 fn falls(p: Point, next: Point) -> bool
-    ensures { result ≡ fallsOf (point_in p ∷ point_in next ∷ []) }
+    ensures { result ≡ falls_of (point_in p ∷ point_in next ∷ []) }
 {
     if next.price < p.price {
         return true;

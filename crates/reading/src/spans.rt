@@ -11,7 +11,7 @@ use words::number32;
 const FORMAT_BYTES: usize = 4;
 
 // So many bytes from a byte offset on.
-#[derive(Drop)]
+#[derive(Clone, Copy)]
 pub struct Span {
     pub at: usize,
     pub bytes: usize,
@@ -51,7 +51,7 @@ impl Span {
 }
 
 // The least and the most bytes of a format.
-#[derive(Drop)]
+#[derive(Clone, Copy)]
 pub struct Sizes {
     pub least: usize,
     pub most: usize,

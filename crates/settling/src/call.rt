@@ -12,7 +12,7 @@ ghost use Rattle.settling.specs.Settling.{
   assessed_file,
   pool_too_large,
   settled_ledger,
-  settling as settlingOf,
+  settling as settling_of,
 };
 ghost use Rattle.settling.specs.Values.{Passed};
 
@@ -97,9 +97,9 @@ fn write_settled(
 // Settles an interval file: answers 0, or the first ground of 6 to 16 and 18 that applies, in checking order,
 // and leaves ledger and result as they were.
 pub fn settle_file(ledger: &mut [u8], file: &[u8], res: &mut [u8]) -> u32
-    ensures answer { result ≡ (settlingOf ledger.old file.now res.old).ground }
-    ensures ledger_bytes { ledger.new ≡ (settlingOf ledger.old file.now res.old).ledger }
-    ensures result_bytes { res.new ≡ (settlingOf ledger.old file.now res.old).result }
+    ensures answer { result ≡ (settling_of ledger.old file.now res.old).refusal }
+    ensures ledger_bytes { ledger.new ≡ (settling_of ledger.old file.now res.old).ledger }
+    ensures result_bytes { res.new ≡ (settling_of ledger.old file.now res.old).result }
 {
     if not_a_ledger(ledger) {
         return 6;

@@ -17,7 +17,7 @@ use reading::header::Header;
 use reading::rows::row_at;
 
 // The sums over an interval's rows.
-#[derive(Drop)]
+#[derive(Clone, Copy)]
 pub struct Sums {
     pub charges: Cents,
     pub bonus: Kilowatts,

@@ -21,7 +21,7 @@ const RESULT_ROW_BYTES: usize = 64;
 pub const MOST_RESULT_BYTES: usize = SUMMARY_BYTES + RESULT_ROW_BYTES * MOST_ROWS;
 
 // The interval's figures.
-#[derive(Drop)]
+#[derive(Clone, Copy)]
 pub struct Summary {
     pub ratio: Ratio,
     pub charges: Cents,
@@ -32,14 +32,14 @@ pub struct Summary {
 }
 
 // What the pool is shared by, and what a row adds to it.
-#[derive(Drop)]
+#[derive(Clone, Copy)]
 pub struct Charged {
     pub bonus: Kilowatts,
     pub charge: Cents,
 }
 
 // How a row came out: by how much it fell short, and by how much it exceeded what was expected.
-#[derive(Drop)]
+#[derive(Clone, Copy)]
 pub struct Balance {
     pub shortfall: Kilowatts,
     pub bonus: Kilowatts,

@@ -1,5 +1,7 @@
 // Standard input and output, for every program that reads a stream and prints.
 
+#![tactic(auto)]
+
 ghost use Rattle.std.specs.Prelude.{◌≡◌, ◌≤◌, length};
 ghost use Rattle.stream.specs.Stream.{length_bytes};
 ghost use Rattle.standard.specs.Input.{ReadNext};
@@ -8,7 +10,7 @@ use libc::{STDIN_FILENO, STDOUT_FILENO};
 use stream::due_part;
 
 // How many bytes were read of a length, how many were then due, and how many of those were read.
-#[derive(Drop)]
+#[derive(Clone, Copy)]
 pub struct Read {
     pub length: usize,
     pub due: usize,

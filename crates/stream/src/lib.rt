@@ -1,7 +1,9 @@
 // A stream of blocks, each after its length as one 32-bit word.
 
+#![tactic(auto)]
+
 ghost use Rattle.std.specs.Prelude.{◌≡◌, ◌++◌, [], ◌≤◌, length, take};
-ghost use Rattle.stream.specs.Stream.{length_bytes, next_block, stops as stopsAt, bytes_due};
+ghost use Rattle.stream.specs.Stream.{length_bytes, next_block, stops as stops_at, bytes_due};
 ghost use Rattle.stream.specs.Code.{found_as};
 
 use words::number32;
@@ -9,7 +11,7 @@ use words::number32;
 pub const LENGTH_BYTES: usize = 4;
 
 // What stands in a length and in the bytes read after it: an end of the stream, or a whole block.
-#[derive(Drop)]
+#[derive(Clone, Copy)]
 pub enum Found {
     Ended,
     Cut,
@@ -20,7 +22,7 @@ pub enum Found {
 impl Found {
     // Whether the stream stops there.
     pub fn stops(self) -> bool
-        ensures { result ≡ stopsAt (found_as self []) }
+        ensures { result ≡ stops_at (found_as self []) }
     {
         match self {
             Found::Ended => true,
@@ -32,7 +34,7 @@ impl Found {
 }
 
 // What a step leaves to its program: the end of the bytes to print, and whether to go on.
-#[derive(Drop)]
+#[derive(Clone, Copy)]
 pub struct Taken {
     pub end: usize,
     pub on: bool,

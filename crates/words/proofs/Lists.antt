@@ -161,7 +161,7 @@ rises_from_zero (x ∷ xs) z e =
     rw (lt-ltb 0 x (omega (arith, eqb-false x 0 some))) e
 
 -- a member of numbers that rise is above what they rise from
-pub member_above : (last : ℕ) {x : ℕ} {xs : List ℕ} → Memᴰ x xs → rises_above last xs ≡ true → last < x
+pub member_above : {x : ℕ} (last : ℕ) {xs : List ℕ} → Memᴰ x xs → rises_above last xs ≡ true → last < x
 member_above last (Memᴰ.head {x = y} {xs = xs} q) e = omega (arith, q, (rises_next last y xs e).0)
 member_above last (Memᴰ.tail {x = y} {xs = xs} m) e =
     let up = rises_next last y xs e in omega (arith, up.0, member_above y m up.1)
@@ -176,7 +176,7 @@ EachBelow n ws = (w : ℕ) → Memᴰ w ws → w < n
 
 -- of no words each is
 pub below_nil : {n : ℕ} → EachBelow n []
-below_nil w m = absurd (Memᴰ.not_nil m)
+below_nil w m = absurd (Memᴰ.not-nil m)
 
 -- so it is with one more such word in front
 pub below_cons : {n : ℕ} (v : ℕ) (ws : List ℕ) → v < n → EachBelow n ws → EachBelow n (v ∷ ws)

@@ -67,7 +67,7 @@ module _ {A : Type 0} (size : ℕ) (read : List ℕ → A) where
   pub entries_all : (P : A → Type 0) → ((b : List ℕ) → Bytes b → P (read b)) → (n : ℕ) (b : List ℕ) → Bytes b → (x : A)
       → Memᴰ x (entries size read n b) → P x
   unfolding entries
-  entries_all P each zero b bytes x m = absurd (Memᴰ.not_nil m)
+  entries_all P each zero b bytes x m = absurd (Memᴰ.not-nil m)
   entries_all P each (suc n) b bytes x m =
       ⊎_elim (λ e. rw e (each b bytes)) (entries_all P each n (drop size b) (drop_bytes size b bytes) x)
       (Memᴰ.cases_cons m)

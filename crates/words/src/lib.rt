@@ -1,5 +1,7 @@
 // Little-endian words in byte buffers, below the three layers.
 
+#![tactic(auto)]
+
 ghost use Rattle.std.specs.Prelude.{◌≡◌, ◌∷◌, [], ◌+◌, ◌*◌, ◌≤◌, ◌<◌, ◌^◌, length};
 ghost use Rattle.std.specs.Int.Signed.{mag};
 ghost use Rattle.words.specs.Words.{

@@ -54,7 +54,7 @@ ids_of_rows gs is = map-map (λ a. a.id) (account_by_rows gs) is ∙ map-id is
 pub found : (gs : List GivenRow) (i : ℕ) (is : List ℕ) → Memᴰ i is
     → account_of i (map (account_by_rows gs) is) ≡ account_by_rows gs i
 unfolding account_of account_by_rows
-found gs i [] m = absurd (Memᴰ.not_nil m)
+found gs i [] m = absurd (Memᴰ.not-nil m)
 found gs i (j ∷ is) m = by (eqb j i) refl (found gs i is)
   where
     by : (t : Bool) → eqb j i ≡ t → (Memᴰ i is → account_of i (map (account_by_rows gs) is) ≡ account_by_rows gs i)

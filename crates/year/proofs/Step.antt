@@ -266,8 +266,8 @@ module _ (block ledger : List ℕ) (s : BlockAccepted block ledger) where
     accounts = empty_accounts (block_of block).ids;
     closes = omega arith;
     limited = λ i m. omega arith;
-    known = λ g m. absurd (Memᴰ.not_nil m);
-    committed = λ g m. absurd (Memᴰ.not_nil m);
+    known = λ g m. absurd (Memᴰ.not-nil m);
+    committed = λ g m. absurd (Memᴰ.not-nil m);
   }
 
   -- it has as many accounts as the block has ids
@@ -305,10 +305,10 @@ module _ (block ledger : List ℕ) (s : BlockAccepted block ledger) where
       record {
         sums = record {
           closes = rw (carried_word left) books.closes;
-          intervals = λ i m. absurd (Memᴰ.not_nil m);
+          intervals = λ i m. absurd (Memᴰ.not-nil m);
           carried = carried_word left ∙ ap (λ l. l.carried) back;
           rest = λ p. omega arith;
-          exclusive = λ g m. absurd (Memᴰ.not_nil m);
+          exclusive = λ g m. absurd (Memᴰ.not-nil m);
           limited = books.limited;
           tariff = λ i m. within_tariff (block_of block).terms _ _ (books.limited i m);
           accounts = books.accounts;

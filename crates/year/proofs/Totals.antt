@@ -17,12 +17,12 @@ none_hit i x last is e h =
     ∙ sum_zero is
 
 -- of ids that rise, one hits a member
-one_hit : (x last : ℕ) {i : ℕ} {is : List ℕ} → Memᴰ i is → rises_above last is ≡ true
+one_hit : (x : ℕ) {i : ℕ} (last : ℕ) {is : List ℕ} → Memᴰ i is → rises_above last is ≡ true
     → sum (λ j. cond (eqb i j) x 0) is ≡ x
 unfolding sum
-one_hit x last {i} (Memᴰ.head {x = j} {xs = is} q) e =
+one_hit x {i} last (Memᴰ.head {x = j} {xs = is} q) e =
     rw (eq-eqb i j q) (omega (arith, none_hit i x j is (rises_next last j is e).1 (omega (arith, q))))
-one_hit x last {i} (Memᴰ.tail {x = j} {xs = is} m) e =
+one_hit x {i} last (Memᴰ.tail {x = j} {xs = is} m) e =
     let up = rises_next last j is e in
     let other : eqb i j ≡ false = ne_eqb i j (λ q. omega (arith, q, member_above j m up.1)) in
     rw other (omega (arith, one_hit x j m up.1))

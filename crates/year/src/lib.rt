@@ -1,1 +1,4 @@
 // A delivery year: what is proved of every list of settling calls, and of each call. It has no code.
+
+#![tactic(auto)]
+
