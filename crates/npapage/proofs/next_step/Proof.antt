@@ -15,7 +15,7 @@ use Rattle.npapage.proofs.next_step.Tie as tie
 -- what was read by the limit of the block's number
 by_number : (c : tie.After-read-next) → let start = c.before.before.before.before.before.before.before.before in
     ReadNext (most_bytes start.args.number) c.read_next.new.1.0 c.read_next.result
-by_number c = rw c.before.before.before.most_bytes_hold.ensures.0 at c.read_next.ensures
+by_number c = rw c.before.before.before.most_bytes.ensures.0 at c.read_next.ensures
 
 -- what was read of the block lies within its buffer
 within : (c : tie.After-read-next) → c.read_next.result.block ≤ length c.read_next.new.1.1.0

@@ -21,7 +21,7 @@ most_bytes_requires c κs = search rules
 next_block_requires : tie.Need-next-block-requires
 next_block_requires c κs =
     let start = c.before.before.before.before.before in
-    (start.requires.1.1.1.1.0, rw c.most_bytes_hold.ensures.0 start.requires.1.1.1.1.1.0)
+    (start.requires.1.1.1.1.0, rw c.most_bytes.ensures.0 start.requires.1.1.1.1.1.0)
 
 stops_requires : tie.Need-stops-requires
 stops_requires c κs = search rules
@@ -46,7 +46,7 @@ returns c =
     let next = asked.before in
     let start = next.before.before.before.before.before.before in
     let year = year_lines start.args.page.id (state_in start.args.ledger.now start.args.page) in (
-      stop_taken (page_steps start.args.page.id) _ _ _ _ _ _ next.before.most_bytes_hold.ensures.0
+      stop_taken (page_steps start.args.page.id) _ _ _ _ _ _ next.before.most_bytes.ensures.0
           next.next_block.ensures
           (sym asked.stops.ensures ∙ arm.if1.true) _
           (λ e at. ap (λ ls. ls ++ year) (stop_lines_lem _ _ e at) ∙ end_later _ _ _ e (λ z. omega (arith, start.requires.0))) _ _ _
@@ -72,7 +72,7 @@ returns_2 c =
     let asked = arm.before in
     let next = asked.before in
     let start = next.before.before.before.before.before.before in (
-      block_taken (page_steps start.args.page.id) _ _ _ _ _ _ next.before.most_bytes_hold.ensures.0
+      block_taken (page_steps start.args.page.id) _ _ _ _ _ _ next.before.most_bytes.ensures.0
           next.next_block.ensures
           (sym asked.stops.ensures ∙ arm.if1.false) _ _ _ _
           (step_as _ _ _ _ _ _ (ap in_bytes (block_later _ _ _ _ (λ z. omega (arith, start.requires.0)))) page.page_interval.ensures.0),

@@ -15,7 +15,7 @@ most_bytes_requires c κs = search rules
 next_block_requires : tie.Need-next-block-requires
 next_block_requires c κs =
     let start = c.before.before.before.before.before in
-    (start.requires.0, rw c.most_bytes_hold.ensures.0 start.requires.1.0)
+    (start.requires.0, rw c.most_bytes.ensures.0 start.requires.1.0)
 
 stops_requires : tie.Need-stops-requires
 stops_requires c κs = search rules
@@ -33,7 +33,7 @@ returns c =
     let arm = put.before.before in
     let asked = arm.before in
     let next = asked.before in (
-      stop_taken (page_steps _) _ _ _ _ _ _ next.before.most_bytes_hold.ensures.0 next.next_block.ensures
+      stop_taken (page_steps _) _ _ _ _ _ _ next.before.most_bytes.ensures.0 next.next_block.ensures
           (sym asked.stops.ensures ∙ arm.if1.true) _ (stop_lines_lem _ _) _ _ _
           put.put_stop.ensures.0 put.put_stop.ensures.1.0
           (omega (arith, put.put_stop.ensures.1.1, next.before.before.before.before.before.before.requires.1.1)),
@@ -56,7 +56,7 @@ returns_2 c =
     let arm = opened.before.before.before in
     let asked = arm.before in
     let next = asked.before in (
-      block_taken (page_steps _) _ _ _ _ _ _ next.before.most_bytes_hold.ensures.0 next.next_block.ensures
+      block_taken (page_steps _) _ _ _ _ _ _ next.before.most_bytes.ensures.0 next.next_block.ensures
           (sym asked.stops.ensures ∙ arm.if1.false) _ _ _ _ opened.open_page.ensures.0,
       opened.open_page.ensures.1,
     )
