@@ -1,4 +1,4 @@
-// What a C program links: opening and settling, a file or a whole event, byte slices in, one number out.
+// Opening and settling, a file or a whole event, byte slices in, one number out. The crate npa_c exports them to C.
 
 #![tactic(auto)]
 
@@ -13,8 +13,7 @@ use settling::call::settle_file;
 
 // Opens a ledger: answers 0, or the first ground of 1 to 5 and 23 that applies, in checking order,
 // and leaves the ledger as it was.
-#[unsafe(no_mangle)]
-pub extern "C" fn npa_open(block: &[u8], ledger: &mut [u8]) -> u32
+pub fn npa_open(block: &[u8], ledger: &mut [u8]) -> u32
     ensures answer { result ≡ (opening block.now ledger.old).refusal }
     ensures buffer { ledger.new ≡ (opening block.now ledger.old).ledger }
 {
@@ -23,8 +22,7 @@ pub extern "C" fn npa_open(block: &[u8], ledger: &mut [u8]) -> u32
 
 // Settles an interval file: answers 0, or the first ground of 6 to 16 and 18 that applies, in checking order,
 // and leaves ledger and result as they were.
-#[unsafe(no_mangle)]
-pub extern "C" fn npa_settle(ledger: &mut [u8], file: &[u8], res: &mut [u8]) -> u32
+pub fn npa_settle(ledger: &mut [u8], file: &[u8], res: &mut [u8]) -> u32
     ensures answer { result ≡ (settling ledger.old file.now res.old).refusal }
     ensures ledger_bytes { ledger.new ≡ (settling ledger.old file.now res.old).ledger }
     ensures result_bytes { res.new ≡ (settling ledger.old file.now res.old).result }
@@ -34,8 +32,7 @@ pub extern "C" fn npa_settle(ledger: &mut [u8], file: &[u8], res: &mut [u8]) -> 
 
 // Settles an event: answers 0, or the ground of the first file refused, and leaves what was settled before it;
 // or 20 where there is no room for the number of files settled, and leaves every buffer as it was.
-#[unsafe(no_mangle)]
-pub extern "C" fn npa_event(
+pub fn npa_event(
     ledger: &mut [u8],
     files: &[u8],
     res: &mut [u8],

@@ -6,8 +6,12 @@ ghost use Rattle.std.specs.Prelude.{◌≡◌, ◌≤◌, length};
 ghost use Rattle.stream.specs.Stream.{length_bytes};
 ghost use Rattle.standard.specs.Input.{ReadNext};
 
-use libc::{STDIN_FILENO, STDOUT_FILENO};
 use stream::due_part;
+
+// The descriptors of standard input and output.
+const STDIN: i32 = 0;
+
+const STDOUT: i32 = 1;
 
 // How many bytes were read of a length, how many were then due, and how many of those were read.
 #[derive(Clone, Copy)]
@@ -21,7 +25,7 @@ pub struct Read {
 pub fn read_word(word: &mut [u8]) -> usize
     ensures { result ≤ length word.new }
 {
-    let got = io::read_full(STDIN_FILENO, word);
+    let got = io::read_full(STDIN, word);
     got
 }
 
@@ -35,7 +39,7 @@ pub fn read_next(most: usize, head: &mut [u8], block: &mut [u8]) -> Read
     let length = read_word(head);
     let part = due_part(most, &head[..length], block);
     let due = part.len();
-    let got = io::read_full(STDIN_FILENO, part);
+    let got = io::read_full(STDIN, part);
     Read {
         length,
         due,
@@ -47,5 +51,5 @@ pub fn read_next(most: usize, head: &mut [u8], block: &mut [u8]) -> Read
 pub fn print(out: &[u8], end: usize) -> bool
     requires { end ≤ length out.now }
 {
-    io::write_all(STDOUT_FILENO, &out[..end])
+    io::write_all(STDOUT, &out[..end])
 }
