@@ -1,13 +1,11 @@
 -- The laws of an event's answer: by whether the count buffer has room.
 use Prim.Native.Nat.{ℕ, ◌+◌, ◌≤◌, ◌<◌}
-use mathlib.Core.Path.{◌≡◌, refl, sym, ap, ◌∙◌}
+use mathlib.Core.Path.{◌≡◌, sym, ap, ◌∙◌}
 use mathlib.Core.List.{List, [], ◌∷◌}
-use mathlib.Core.Bool.{cond}
 use lib.ListN.{length}
-use lib.Dec.{ltb}
 use borrow.Author.Tests.{lt-ltb, le-ltb}
 use Rattle.words.specs.Words.{written, written_at}
-use Rattle.event.specs.Event.{count_bytes, count_too_short, Settled, settled_files, EventAnswer, event}
+use Rattle.event.specs.Event.{count_bytes, count_too_short, Settled, settled_files, event}
 use Rattle.event.specs.Code.{FilesSettled}
 use Rattle.event.specs.declared.Settled.{Settled as SettledValue}
 

@@ -1,7 +1,7 @@
 -- The proofs of what specs/Claims.antt states.
 use Prim.Native.Nat.{ℕ, zero, suc, ◌+◌, ◌-◌, ◌<◌}
 use mathlib.Core.Path.{◌≡◌, refl, sym, ap, ◌∙◌}
-use mathlib.Core.List.{List, [], ◌∷◌}
+use mathlib.Core.List.{List}
 use mathlib.Core.Bool.{Bool, true, false, cond}
 use native.Mathlib.Omega.{arith}
 use lib.ListN.{length, take, drop}
@@ -13,7 +13,7 @@ use Rattle.stream.specs.Stream.{End, Next, next_block}
 use Rattle.stream.proofs.Laws.{rest_left}
 use Rattle.reading.specs.Interval.{header_of}
 use Rattle.settling.specs.Settling.{result_bytes, settling_grounds, SettlingAnswer, settling}
-use Rattle.settling.proofs.SettlingAnswers.{settled_answer, settling_accepts, settling_refuses}
+use Rattle.settling.proofs.SettlingAnswers.{settling_accepts, settling_refuses}
 use Rattle.event.specs.Event.{most_length, Settled, no_file, one_file, turn, settled_files}
 use Rattle.event.specs.Claims.{TurnsAreEnough, RefusedTurn}
 

@@ -1,6 +1,5 @@
 -- The worked figures of events, computed.
 use mathlib.Core.Path.{refl}
-use Rattle.words.specs.Figures.{AllAsStated}
 use Rattle.stream.specs.Stream.{next_block}
 use Rattle.ledger.specs.Figures.{opened_listing}
 use Rattle.settling.specs.Figures.{

@@ -1,13 +1,12 @@
 -- The laws of files in order: what is left of an event after some of them.
 use Prim.Native.Nat.{ℕ, suc, ◌+◌, ◌-◌, ◌≤◌}
-use mathlib.Core.Path.{◌≡◌, refl, sym, ap, ap₂, ◌∙◌}
+use mathlib.Core.Path.{◌≡◌, sym, ap, ap₂, ◌∙◌}
 use mathlib.Core.List.{List, [], ◌++◌, append_assoc}
 use mathlib.Core.Bool.{true, false, cond}
 use native.Mathlib.Nat.{zero-add, add-zero}
 use native.Mathlib.Omega.{arith}
 use lib.ListN.{length, take, drop, take-append-drop, drop_of_length-le}
 use lib.Seq.{length-take-le, take-append-add, drop-append-add}
-use lib.Dec.{eqb}
 use borrow.Author.Tests.{eq-eqb, ne_eqb}
 use Rattle.stream.specs.Stream.{End, Next, next_block}
 use Rattle.reading.specs.Interval.{header_of}
@@ -16,7 +15,6 @@ use Rattle.event.specs.Event.{most_length, length_runs_past, Settled, no_file, o
 use Rattle.event.specs.Code.{file_at, FileDue, TurnTaken, FilesSettled}
 use Rattle.event.specs.declared.Place.{Place as PlaceValue}
 use Rattle.event.specs.declared.Turn.{Turn as TurnValue}
-use Rattle.event.specs.declared.Settled.{Settled as SettledValue}
 
 -- what later files leave, after so many whose results stand in front
 unfoldable pub prefixed : ℕ → List ℕ → Settled → Settled

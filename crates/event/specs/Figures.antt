@@ -1,5 +1,5 @@
 -- Worked figures of events.
-use Rattle.std.specs.Prelude.{ℕ, ◌≡◌, List, [], ◌∷◌, ◌++◌, length, take, drop}
+use Rattle.std.specs.Prelude.{ℕ, ◌≡◌, List, [], ◌∷◌, ◌++◌, length}
 use Rattle.words.specs.Words.{bytes_of, bytes_of_words, word64}
 use Rattle.words.specs.Figures.{Figure, ◌gives◌, AllAsStated}
 use Rattle.ledger.specs.Figures.{buffer, opened_listing}

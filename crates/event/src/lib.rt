@@ -73,7 +73,10 @@ fn settle_next(ledger: &mut [u8], file: &[u8], res: &mut [u8], filled: usize) ->
 {
     let ground = settle_file(ledger, file, &mut res[filled..]);
     if ground != 0 {
-        return Turn { refusal: ground, filled };
+        return Turn {
+            refusal: ground,
+            filled,
+        };
     }
     let rows = header_of(file).rows;
     Turn {

@@ -1,6 +1,6 @@
 -- What the values of the code say, as the records that the definitions speak of;
 -- what is known of a ledger once ground 6 is ruled out; and where a walk finds an id.
-use Rattle.std.specs.Prelude.{ℕ, zero, suc, ◌*◌, ◌≤◌, ◌≡◌, List, [], ◌∷◌, false, cond, length, eqb}
+use Rattle.std.specs.Prelude.{ℕ, suc, ◌*◌, ◌≤◌, ◌≡◌, List, [], ◌∷◌, false, cond, length, eqb}
 use Rattle.words.specs.Lists.{any}
 use Rattle.reading.specs.Block.{most_ids, terms_outside, ids_out_of_order}
 use Rattle.reading.specs.Interval.{intervals_per_day}

@@ -32,12 +32,7 @@ pub fn npa_settle(ledger: &mut [u8], file: &[u8], res: &mut [u8]) -> u32
 
 // Settles an event: answers 0, or the ground of the first file refused, and leaves what was settled before it;
 // or 20 where there is no room for the number of files settled, and leaves every buffer as it was.
-pub fn npa_event(
-    ledger: &mut [u8],
-    files: &[u8],
-    res: &mut [u8],
-    count: &mut [u8],
-) -> u32
+pub fn npa_event(ledger: &mut [u8], files: &[u8], res: &mut [u8], count: &mut [u8]) -> u32
     ensures answer { result ≡ (event ledger.old files.now res.old count.old).refusal }
     ensures ledger_bytes { ledger.new
         ≡ (event ledger.old files.now res.old count.old).ledger }

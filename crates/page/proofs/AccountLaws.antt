@@ -4,7 +4,7 @@ use mathlib.Core.Path.{◌≡◌, refl, sym, ap, ◌∙◌, subst}
 use mathlib.Core.List.{List, [], ◌∷◌, map, Memᴰ}
 use mathlib.Core.Bool.{Bool, true, false, not, cond}
 use native.Mathlib.Omega.{arith}
-use lib.ListN.{length, drop, get_or, length-map}
+use lib.ListN.{length, drop, get_or}
 use lib.Dec.{ltb, leb, eqb}
 use borrow.Author.Tests.{leb-true, leb-false}
 use Rattle.words.specs.Lists.{any}
@@ -27,7 +27,7 @@ use Rattle.ledger.specs.Values.{standing_in, LedgerRead, before}
 use Rattle.ledger.specs.Walk.{comparisons, pass_comparisons, BudgetSuffices}
 use Rattle.ledger.specs.declared.layout.Standing.{Standing as StandingValue}
 use Rattle.ledger.specs.declared.walk.Walk.{Walk as WalkValue}
-use Rattle.ledger.proofs.Sound.{AccountIn, LedgerIn, ledger_in, ledger_room, said, ledger_read}
+use Rattle.ledger.proofs.Sound.{ledger_in, ledger_room, said, ledger_read}
 use Rattle.ledger.proofs.Accounts.{length_accounts, length_account_ids, account_is}
 use Rattle.ledger.proofs.WalkLaws.{budget_suffices, found_is, account_found}
 

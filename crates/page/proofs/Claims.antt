@@ -1,22 +1,17 @@
 -- The proofs of what specs/Claims.antt states.
 use Prim.Native.Nat.{ℕ, zero, suc, ◌+◌, ◌*◌, ◌<◌}
-use mathlib.Core.Path.{◌≡◌, refl, sym, ap, ap₂, ◌∙◌, subst}
-use mathlib.Core.List.{List, [], ◌∷◌, ◌++◌, map, append-nil}
+use mathlib.Core.Path.{◌≡◌, refl, sym, ap, ap₂, ◌∙◌}
+use mathlib.Core.List.{List, [], ◌∷◌, ◌++◌, append-nil}
 use mathlib.Core.Bool.{Bool, true, false, cond}
-use native.Mathlib.Nat.{zero-add}
 use native.Mathlib.Numerals.{add-one}
 use native.Mathlib.Omega.{arith}
 use lib.ListN.{length, take, drop, length-take, length-drop}
-use lib.Seq.{get_or-take, get_or-drop}
 use lib.Dec.{ltb, eqb}
-use borrow.Author.Tests.{lt-ltb, le-ltb, ltb-true, ltb-false, eqb-true}
-use Rattle.words.specs.Lists.{sum, any}
 use Rattle.words.specs.Words.{Bytes, number}
-use Rattle.words.proofs.Ints.{never}
 use Rattle.words.proofs.Lists.{found_member}
 use Rattle.words.proofs.Words.{drop_bytes}
-use Rattle.stream.specs.Stream.{length_bytes, End, Next, next_block, bytes_of_next, after}
-use Rattle.stream.specs.Steps.{Outcome, step, joined, steps_over}
+use Rattle.stream.specs.Stream.{length_bytes, End, Next, next_block, bytes_of_next}
+use Rattle.stream.specs.Steps.{Outcome, steps_over}
 use Rattle.stream.specs.Claims.{reading_steps, ReadingIsEnough}
 use Rattle.stream.proofs.Claims.{reading_is_enough}
 use Rattle.reading.specs.Block.{block_of}
@@ -25,20 +20,11 @@ use Rattle.reading.specs.Interval.{Row}
 use Rattle.assessment.specs.Assessment.{Account, account_of}
 use Rattle.ledger.specs.Ledger.{ledger_of}
 use Rattle.ledger.specs.Opening.{opening}
-use Rattle.year.specs.Year.{GivenRow, Call, new_year, after_calls, sum_of_plant, account_by_rows}
+use Rattle.year.specs.Year.{GivenRow, new_year, after_calls, sum_of_plant, account_by_rows}
 use Rattle.year.proofs.Claims.{kept}
 use Rattle.year.proofs.Books.{found}
 use Rattle.listing.specs.Lines.{heading, RowLine, Line, bytes_of_lines}
-use Rattle.listing.specs.Npalist.{
-  row_line,
-  ledger_buffer,
-  opening_listed,
-  block_listed,
-  most_bytes,
-  listing_steps,
-  next_listed,
-  listed,
-}
+use Rattle.listing.specs.Npalist.{row_line, ledger_buffer, most_bytes, listing_steps, listed}
 use Rattle.page.specs.Page.{
   id_word_bytes,
   on_page,
@@ -56,7 +42,6 @@ use Rattle.page.specs.Page.{
 }
 use Rattle.page.specs.Steps.{page_start, id_outcome, page_steps}
 use Rattle.page.specs.Claims.{read_page, StepsPrintThePage, rows_among, rows_of_plant, PageHolds, PageOfAPlant}
-use Rattle.page.proofs.StepLaws.{opened_zero}
 use Rattle.page.proofs.Printed.{over_next, steps_print}
 use Rattle.page.proofs.Sums.{given_at, given_first}
 

@@ -1,5 +1,5 @@
 -- The page's steps print the lines that the page chooses of the listing, and the year.
-use Prim.Native.Nat.{ℕ, zero, suc, ◌+◌, ◌<◌}
+use Prim.Native.Nat.{ℕ, zero, suc, ◌+◌}
 use mathlib.Core.Path.{◌≡◌, refl, sym, ap, ap₂, ◌∙◌}
 use mathlib.Core.List.{List, [], ◌∷◌, ◌++◌, append_assoc}
 use mathlib.Core.Bool.{Bool, true, false, not, cond, ◌&&◌}
@@ -17,17 +17,7 @@ use Rattle.stream.specs.Steps.{Outcome, Steps, step, joined, steps_over}
 use Rattle.stream.specs.Claims.{BudgetIsEnough}
 use Rattle.stream.proofs.Claims.{budget_is_enough}
 use Rattle.listing.specs.Lines.{RowLine, Line}
-use Rattle.listing.specs.Npalist.{
-  ledger_buffer,
-  opening_listed,
-  interval_listed,
-  block_listed,
-  most_bytes,
-  end_lines,
-  listing_steps,
-  next_listed,
-  listed,
-}
+use Rattle.listing.specs.Npalist.{ledger_buffer, opening_listed, interval_listed, block_listed, most_bytes, end_lines, listing_steps, listed}
 use Rattle.page.specs.Page.{
   outside_roster,
   on_page,

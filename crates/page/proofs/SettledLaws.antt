@@ -1,13 +1,11 @@
 -- The laws of an interval on a page: its refusal, no line, or the plant's line with its figures.
 use Prim.Native.Nat.{ℕ, ◌+◌, ◌*◌, ◌≤◌, ◌<◌}
 use mathlib.Core.Path.{◌≡◌, refl, sym, ap, ap₂, ◌∙◌, subst}
-use mathlib.Core.List.{List, [], ◌∷◌, ◌++◌, append-nil, Memᴰ}
+use mathlib.Core.List.{List, [], ◌∷◌, append-nil, Memᴰ}
 use mathlib.Core.Bool.{true}
-use native.Mathlib.Nat.{add-zero}
 use native.Mathlib.Omega.{arith}
 use lib.ListN.{length, drop}
 use lib.Seq.{drop-drop}
-use lib.Dec.{eqb}
 use borrow.Author.Tests.{eq-eqb, ne_eqb}
 use Rattle.words.specs.Lists.{sum}
 use Rattle.words.specs.Words.{word64, placed_at}
@@ -21,10 +19,10 @@ use Rattle.ledger.specs.Values.{before}
 use Rattle.settling.specs.Settling.{result_header_bytes, result_row_bytes, result_bytes, SettlingAnswer, settling}
 use Rattle.settling.proofs.Accepted.{accepted, settling_none}
 use Rattle.settling.proofs.SettlingAnswers.{settling_accepts}
-use Rattle.year.specs.Year.{GivenRow, GivenInterval, given_by, interval_by}
-use Rattle.year.proofs.Fits.{new, new_interval, new_balance, interval_made}
-use Rattle.listing.specs.Lines.{RowLine, Line, bytes_of_line, bytes_of_lines}
-use Rattle.listing.specs.Npalist.{row_line, row_lines, file_lines, pool_line, interval_lines, result_buffer, interval_listed}
+use Rattle.year.specs.Year.{given_by, interval_by}
+use Rattle.year.proofs.Fits.{new, new_balance, interval_made}
+use Rattle.listing.specs.Lines.{Line, bytes_of_line, bytes_of_lines}
+use Rattle.listing.specs.Npalist.{row_line, file_lines, pool_line, interval_lines, result_buffer, interval_listed}
 use Rattle.listing.specs.Code.{in_bytes}
 use Rattle.listing.proofs.LineLaws.{one_line}
 use Rattle.page.specs.Page.{on_page, chosen, figure_on, summed}

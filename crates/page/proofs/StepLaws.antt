@@ -28,7 +28,6 @@ use Rattle.year.proofs.Claims.{kept}
 use Rattle.listing.specs.Lines.{RowLine, Line, bytes_of_line, bytes_of_lines}
 use Rattle.listing.specs.Npalist.{opening_listed, interval_listed, end_lines}
 use Rattle.listing.specs.Code.{in_bytes, year_in}
-use Rattle.listing.specs.declared.lines.YearFigures.{YearFigures}
 use Rattle.listing.proofs.LineLaws.{one_line, lines_append}
 use Rattle.page.specs.Page.{id_word_bytes, outside_roster, on_page, chosen, figure_on, summed, year_of, on_roster}
 use Rattle.page.specs.Steps.{

@@ -1,38 +1,22 @@
 -- The sums of a plant's lines are those of the rows that the year's calls gave.
-use Prim.Native.Nat.{ℕ, zero, suc, ◌+◌, ◌<◌}
-use mathlib.Core.Path.{◌≡◌, refl, sym, ap, ap₂, ◌∙◌, subst}
-use mathlib.Core.List.{List, [], ◌∷◌, ◌++◌, append-nil}
+use Prim.Native.Nat.{ℕ, zero, suc, ◌+◌}
+use mathlib.Core.Path.{◌≡◌, refl, sym, ap, ap₂, ◌∙◌}
+use mathlib.Core.List.{List, [], ◌∷◌, ◌++◌}
 use mathlib.Core.Bool.{Bool, true, false, cond}
-use native.Mathlib.Numerals.{add-one}
-use native.Mathlib.Nat.{zero-add, add-zero}
+use native.Mathlib.Nat.{zero-add}
 use native.Mathlib.Omega.{arith}
-use lib.ListN.{length, take, drop, get_or}
-use lib.Seq.{get_or-take}
-use lib.Dec.{ltb, eqb}
-use borrow.Author.Tests.{ne_eqb}
+use lib.ListN.{drop}
+use lib.Dec.{eqb}
 use Rattle.words.specs.Lists.{sum}
-use Rattle.words.specs.Words.{Bytes, word64}
+use Rattle.words.specs.Words.{word64}
 use Rattle.words.proofs.Ints.{never}
 use Rattle.words.proofs.Lists.{sum_append}
-use Rattle.stream.specs.Stream.{length_bytes, End, Next, next_block, bytes_of_next, after}
+use Rattle.stream.specs.Stream.{End, Next, next_block, bytes_of_next, after}
 use Rattle.stream.specs.Steps.{Outcome, step, joined, steps_over}
 use Rattle.reading.specs.Interval.{Row, header_of, rows_of}
 use Rattle.ledger.specs.Opening.{opening}
 use Rattle.settling.specs.Settling.{result_header_bytes, result_row_bytes, SettlingAnswer, settling}
-use Rattle.year.specs.Year.{
-  Call,
-  GivenRow,
-  GivenInterval,
-  given_from,
-  given_by,
-  interval_by,
-  Year,
-  new_year,
-  after_answer,
-  after_call,
-  after_calls,
-  sum_of_plant,
-}
+use Rattle.year.specs.Year.{Call, GivenRow, given_from, given_by, interval_by, Year, new_year, after_answer, after_call, after_calls, sum_of_plant}
 use Rattle.year.proofs.Calls.{answer_leaves}
 use Rattle.listing.specs.Lines.{RowLine, Line}
 use Rattle.listing.specs.Npalist.{

@@ -2,7 +2,7 @@
 use Rattle.std.specs.Prelude.{ℕ, ◌<◌, ◌≡◌, List, [], ◌∷◌, ◌++◌, true, cond, length, take, drop, eqb}
 use Rattle.words.specs.Words.{Bytes}
 use Rattle.stream.specs.Claims.{reading_steps}
-use Rattle.listing.specs.Lines.{heading, RowLine, YearLine, Line, bytes_of_lines}
+use Rattle.listing.specs.Lines.{heading, RowLine, Line, bytes_of_lines}
 use Rattle.listing.specs.Npalist.{listed}
 use Rattle.page.specs.Page.{
   id_word_bytes,

@@ -1,6 +1,6 @@
 -- The limits and the room of a page, of which no sentence of the papers speaks.
-use Rattle.std.specs.Prelude.{ℕ, ◌+◌}
-use Rattle.listing.specs.Room.{row_room, refused_room, year_room}
+use Rattle.std.specs.Prelude.{ℕ}
+use Rattle.listing.specs.Room.{row_room}
 
 -- a loop that is proved has to end: no stream has so many blocks
 abbrev pub most_blocks : ℕ

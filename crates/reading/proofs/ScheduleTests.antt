@@ -1,38 +1,18 @@
 -- What each test that the code makes of a row's schedules says of ground 18.
 use Prim.Native.Nat.{ℕ, zero, suc, ◌+◌, ◌*◌, ◌≤◌, ◌<◌}
-use mathlib.Core.Path.{◌≡◌, refl, sym, ap, ap₂, ◌∙◌}
+use mathlib.Core.Path.{◌≡◌, refl, sym, ap, ◌∙◌}
 use mathlib.Core.List.{List, [], ◌∷◌}
 use mathlib.Core.Bool.{Bool, true, false, ◌||◌, ◌&&◌, or-true}
 use native.Mathlib.Omega.{arith}
 use borrow.Author.Tests.{lt-ltb, le-ltb, le-leb, lt-leb, eq-eqb}
-use lib.ListN.{length, drop}
+use lib.ListN.{drop}
 use lib.Dec.{ltb, leb}
 use Rattle.words.specs.Lists.{any}
 use Rattle.words.specs.Words.{entries}
 use Rattle.words.specs.Grounds.{outside}
 use Rattle.words.proofs.Lists.{any_turn}
-use Rattle.words.proofs.Tests.{lies_below, lies_above, lies_inside, facts}
-use Rattle.reading.specs.Interval.{
-  curves_format,
-  market,
-  cost,
-  most_row_schedules,
-  schedule_bytes,
-  file_layout,
-  Header,
-  RowWords,
-  ScheduleWords,
-  header_of,
-  row_words,
-  row_words_of,
-  schedule_words,
-  table_schedules,
-  as_schedule,
-  schedules_named,
-  schedules_beyond,
-  kind_outside,
-  schedules_outside,
-}
+use Rattle.words.proofs.Tests.{lies_below, lies_above, lies_inside}
+use Rattle.reading.specs.Interval.{curves_format, market, cost, most_row_schedules, schedule_bytes, file_layout, Header, RowWords, ScheduleWords, header_of, row_words, row_words_of, schedule_words, table_schedules, schedules_beyond, kind_outside, schedules_outside}
 use Rattle.reading.proofs.Layouts.{in_curves, in_schedules}
 use Rattle.reading.proofs.Tables.{entries_from, table_start, table_turn_at, table_end, no_entry}
 use Rattle.reading.proofs.Schedules.{named_none, named_one, named_table, length_table}

@@ -2,7 +2,7 @@
 use Prim.Native.Nat.{ℕ, ◌+◌, ◌-◌, ◌≤◌, ◌<◌}
 use mathlib.Core.Path.{◌≡◌, refl, sym, ◌∙◌}
 use mathlib.Core.List.{List}
-use mathlib.Core.Bool.{Bool, true, false, cond, not, ◌||◌}
+use mathlib.Core.Bool.{Bool, true, false, cond, not}
 use native.Mathlib.Omega.{arith}
 use borrow.Author.Tests.{le-leb, lt-leb, lt-ltb, le-ltb, ltb-true, ltb-false, ne_eqb, eqb-true}
 use lib.ListN.{length}
@@ -10,7 +10,7 @@ use lib.Dec.{ltb, eqb}
 use Rattle.words.specs.Words.{word32}
 use Rattle.words.specs.Grounds.{outside, lies_from, overlap}
 use Rattle.words.proofs.Ints.{never}
-use Rattle.words.proofs.Tests.{lies_inside, lies_below, lies_above, not_leb, not_outside, facts}
+use Rattle.words.proofs.Tests.{lies_below, not_leb, not_outside, facts}
 use Rattle.reading.specs.Formats.{format_bytes, Sizes, sizes_outside, not_of_formats}
 
 -- two comparisons that say the same

@@ -1,6 +1,6 @@
 -- What is known of a ledger, a file and a result buffer where no ground of settling applies.
 use Prim.Native.Nat.{ℕ, ◌≤◌}
-use mathlib.Core.Path.{◌≡◌, refl, sym, ap, ◌∙◌}
+use mathlib.Core.Path.{◌≡◌, refl, sym, ◌∙◌}
 use mathlib.Core.List.{List, map, Memᴰ}
 use mathlib.Core.Bool.{true, false, not}
 use native.Mathlib.Omega.{arith}

@@ -3,8 +3,8 @@ use Prim.Native.Nat.{ℕ, ◌+◌, ◌-◌, ◌≤◌, ◌<◌}
 use mathlib.Core.Path.{◌≡◌, sym, ap, ◌∙◌, subst}
 use mathlib.Core.List.{List, ◌∷◌, map}
 use native.Mathlib.Omega.{arith}
-use lib.ListN.{length, drop, length-map}
-use Rattle.reading.specs.Interval.{header_of, RowWords, row_words_at, row_with, row_of, rows_of}
+use lib.ListN.{drop, length-map}
+use Rattle.reading.specs.Interval.{RowWords, row_words_at, row_with, row_of, rows_of}
 use Rattle.reading.specs.Values.{HeaderRead}
 use Rattle.reading.specs.declared.header.Header.{Header as HeaderValue}
 use Rattle.reading.proofs.RowsLeft.{rows_left, rows_start, length_rows}

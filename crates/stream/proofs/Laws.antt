@@ -10,7 +10,7 @@ use lib.Seq.{length-take-le, take_all, take-take, take-add, drop_at, drop-drop}
 use lib.Dec.{ltb, eqb}
 use borrow.Author.Tests.{lt-ltb, le-ltb, ltb-true, ltb-false, eq-eqb, ne_eqb}
 use Rattle.words.specs.Words.{number, number_at}
-use Rattle.stream.specs.Stream.{length_bytes, End, Next, next_block, after, bytes_due}
+use Rattle.stream.specs.Stream.{length_bytes, End, Next, next_block, bytes_due}
 use Rattle.stream.specs.Steps.{Steps, step}
 
 -- a number of the first n bytes depends on no byte after them

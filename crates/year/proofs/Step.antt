@@ -20,7 +20,7 @@ use Rattle.words.specs.Words.{Bytes, word64, written}
 use Rattle.words.proofs.Lists.{sum_append, sum_map, found_member}
 use Rattle.reading.specs.Block.{block_words, block_of}
 use Rattle.reading.specs.Interval.{Row, header_of, rows_of}
-use Rattle.reading.proofs.Bounds.{terms_in_lem, length_ids, ids_rise}
+use Rattle.reading.proofs.Bounds.{terms_in_lem, length_ids}
 use Rattle.assessment.specs.Assessment.{
   Ratio,
   ratio_of,

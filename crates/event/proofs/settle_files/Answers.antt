@@ -1,9 +1,7 @@
 -- `event::settle_files` meets its contract.
 -- What is left to do after some files is an event of the rest of the files and of the result.
-use Prim.Native.Nat.{◌-◌}
 use mathlib.Core.Path.{refl}
 use native.Mathlib.Omega.{arith}
-use lib.ListN.{length}
 use borrow.Author.Tests.{not-true, not-false}
 use Rattle.event.proofs.FilesLaws.{going_start, going_end, going_cut, going_refused, going_on}
 use Rattle.event.proofs.settle_files.Goals as goal

@@ -1,8 +1,6 @@
 -- `npapage::run_intervals` meets its contract. The ledger stays one of the year, the sums stay within their bounds,
 -- and the numbers of blocks rise to a bound.
-use Prim.Native.Nat.{◌-◌}
 use native.Mathlib.Omega.{arith}
-use Rattle.page.specs.Room.{most_blocks}
 use borrow.Author.Rules.{rules}
 use Rattle.npapage.proofs.run_intervals.Goals as goal
 

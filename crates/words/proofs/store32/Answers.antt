@@ -1,5 +1,5 @@
 -- `words::store32` meets its contract. What is left to write is the words from i on.
-use Prim.Native.Nat.{◌+◌, ◌-◌, ◌*◌}
+use Prim.Native.Nat.{◌+◌, ◌*◌}
 use mathlib.Core.Path.{refl}
 use native.Mathlib.Omega.{arith}
 use Rattle.words.proofs.Placing.{words_turn, words_all}

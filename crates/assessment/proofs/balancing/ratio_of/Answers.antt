@@ -1,5 +1,4 @@
 -- `assessment::balancing::ratio_of` meets its contract. What is left to add is the shares of the rows from i on.
-use Prim.Native.Nat.{◌-◌}
 use Rattle.reading.specs.Interval.{row_with, row_of}
 use Rattle.reading.specs.Values.{row_in, Sound}
 use Rattle.reading.proofs.SoundRows.{sound_row}

@@ -1,11 +1,10 @@
 -- `assessment::curve::points_left` meets its contract.
 -- The walk goes down: no point from i on is priced at or below the LMP.
-use mathlib.Core.Path.{◌≡◌, sym, ap, ◌∙◌}
+use mathlib.Core.Path.{sym, ap, ◌∙◌}
 use native.Mathlib.Omega.{arith}
 use lib.Signed.{le_z}
 use mir.Syntax.{w64}
 use mir.Val.{to_z, of_z}
-use Rattle.reading.specs.Interval.{point_at}
 use Rattle.assessment.proofs.CurveLaws.{price_read, none_behind, none_from, left_from, left_none}
 use Rattle.words.proofs.Ints.{plain}
 use Rattle.assessment.proofs.curve.points_left.Goals as goal

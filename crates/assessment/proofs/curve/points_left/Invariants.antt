@@ -1,6 +1,6 @@
 -- `assessment::curve::points_left` meets its contract.
 -- The walk goes down: no point from i on is priced at or below the LMP.
-use Prim.Native.Nat.{◌-◌, ◌≤◌}
+use Prim.Native.Nat.{◌≤◌}
 use Rattle.assessment.proofs.CurveLaws.{NoneFrom}
 use Rattle.assessment.proofs.curve.points_left.Given as goal
 

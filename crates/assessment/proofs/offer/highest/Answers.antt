@@ -1,7 +1,6 @@
 -- `assessment::offer::highest` meets its contract. What is left to look at is the schedules from k on.
-use Prim.Native.Nat.{◌+◌, ◌-◌, ◌<◌}
+use Prim.Native.Nat.{◌+◌, ◌<◌}
 use mathlib.Core.Path.{◌≡◌, sym, ap, subst, ◌∙◌}
-use mathlib.Core.Logic.{⊎_elim}
 use native.Mathlib.Omega.{arith}
 use lib.ListN.{length}
 use Rattle.reading.specs.Interval.{schedules_named, row_of}
@@ -43,10 +42,10 @@ loop-k-preserved c =
     let below : c.loop-k.k < length (schedules_named f row) = omega (arith, count_is, c.loop-k-test.true) in
     let inv = c.loop-k.invariant in
     elim c.if-k-row.branch [
-      then-k-row w ↦
-        subst after (sym (ap (λ m. m.0) w.most-is ∙ w.greater-most.ensures)) (highest_turn f row inv below w.counted.ensures)
-    | else-k-row w ↦
-        subst after (sym (ap (λ m. m.0) w.most-is)) (highest_skip f row c.requires.dispatched_in_bounds inv w.if-k-row.false)
+      | then-k-row w ↦
+          subst after (sym (ap (λ m. m.0) w.most-is ∙ w.greater-most.ensures)) (highest_turn f row inv below w.counted.ensures)
+      | else-k-row w ↦
+          subst after (sym (ap (λ m. m.0) w.most-is)) (highest_skip f row c.requires.dispatched_in_bounds inv w.if-k-row.false)
     ]
 
 pub returns : goal.returns

@@ -1,6 +1,5 @@
 -- `ledger::ground_six::accounts_refused` meets its contract. The invariant:
 -- all accounts are refused just where those left are, after the last id and with the sums so far.
-use Prim.Native.Nat.{◌-◌}
 use mathlib.Core.Path.{sym, ap, ◌∙◌}
 use mathlib.Core.Bool.{not}
 use native.Mathlib.Omega.{arith}

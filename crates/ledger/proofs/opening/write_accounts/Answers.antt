@@ -1,10 +1,8 @@
 -- `ledger::opening::write_accounts` meets its contract. The invariant:
 -- to write the accounts left into the ledger as it is now is to write all of them into it as it was.
-use Prim.Native.Nat.{◌-◌}
 use mathlib.Core.Path.{refl}
 use native.Mathlib.Omega.{arith}
 use borrow.Author.Rules.{rules}
-use lib.ListN.{length}
 use Rattle.reading.specs.Block.{block_of}
 use Rattle.reading.proofs.Facts.{length_listed}
 use Rattle.ledger.specs.Ledger.{ledger_bytes}

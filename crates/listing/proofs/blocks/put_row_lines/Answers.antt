@@ -1,5 +1,5 @@
 -- `listing::blocks::put_row_lines` meets its contract. What is left to write is the lines of the rows from i on.
-use Prim.Native.Nat.{◌+◌, ◌-◌}
+use Prim.Native.Nat.{◌+◌}
 use mathlib.Core.Path.{refl, sym, ap, ◌∙◌}
 use native.Mathlib.Omega.{arith}
 use borrow.Author.Rules.{rules}
@@ -11,7 +11,6 @@ use Rattle.reading.proofs.Facts.{row_count_lem}
 use Rattle.settling.specs.Settling.{result_header_bytes, result_bytes}
 use Rattle.listing.specs.Lines.{bytes_of_lines}
 use Rattle.listing.specs.Npalist.{row_lines}
-use Rattle.listing.specs.Room.{row_room}
 use Rattle.listing.proofs.BlockLaws.{lines_start, row_turn, row_end}
 use Rattle.listing.proofs.blocks.put_row_lines.Goals as goal
 

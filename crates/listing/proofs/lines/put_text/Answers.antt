@@ -1,9 +1,8 @@
 -- `listing::lines::put_text` meets its contract. What is left to write are the bytes from i on.
-use Prim.Native.Nat.{◌-◌}
 use mathlib.Core.Path.{refl}
 use native.Mathlib.Nat.{add-zero}
 use native.Mathlib.Omega.{arith}
-use lib.ListN.{length, length-set}
+use lib.ListN.{length-set}
 use Rattle.words.proofs.Placing.{copy_turn, copy_all}
 use Rattle.listing.proofs.lines.put_text.Goals as goal
 
@@ -26,8 +25,7 @@ pub loop-i-smaller : goal.loop-i-smaller
 loop-i-smaller c = omega arith
 
 pub loop-i-preserved : goal.loop-i-preserved
-loop-i-preserved c =
-    (
+loop-i-preserved c = (
   omega arith,
   copy_turn _ _ _ _ _ c.loop-i.invariant.1 (omega arith) (omega arith),
   simp length-set (omega arith),

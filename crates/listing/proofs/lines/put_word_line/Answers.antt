@@ -1,5 +1,4 @@
 -- `listing::lines::put_word_line` meets its contract. What is left to write is the line of the words from i on.
-use Prim.Native.Nat.{◌-◌}
 use mathlib.Core.Path.{refl}
 use native.Mathlib.Nat.{sub-zero}
 use native.Mathlib.Omega.{arith}

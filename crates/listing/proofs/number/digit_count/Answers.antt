@@ -3,7 +3,6 @@
 use mathlib.Core.Path.{ap}
 use native.Mathlib.Omega.{arith}
 use lib.ListN.{length}
-use Rattle.listing.specs.Lines.{decimal}
 use Rattle.listing.proofs.Digits.{decimal_one, decimal_longer, decimal_most}
 use Rattle.listing.proofs.number.digit_count.Goals as goal
 

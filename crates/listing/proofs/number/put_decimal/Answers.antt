@@ -2,8 +2,7 @@
 -- What is left to write are the digits of what is left of the number.
 use mathlib.Core.Path.{refl}
 use native.Mathlib.Omega.{arith}
-use lib.ListN.{length, length-set}
-use Rattle.listing.specs.Lines.{decimal}
+use lib.ListN.{length-set}
 use Rattle.listing.proofs.Digits.{decimal_longer, decimal_most, digit_turn, digit_first}
 use Rattle.listing.proofs.number.put_decimal.Goals as goal
 

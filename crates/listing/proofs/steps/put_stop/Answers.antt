@@ -4,7 +4,7 @@ use native.Mathlib.Nat.{zero-add}
 use native.Mathlib.Omega.{arith}
 use Rattle.words.proofs.Placing.{place_none}
 use Rattle.stream.specs.Code.{found_as}
-use Rattle.listing.specs.Lines.{bytes_of_line, bytes_of_lines}
+use Rattle.listing.specs.Lines.{bytes_of_lines}
 use Rattle.listing.specs.Npalist.{end_lines}
 use Rattle.listing.specs.Code.{stop_lines}
 use Rattle.listing.proofs.LineLaws.{one_line}

@@ -1,5 +1,4 @@
 -- `page::lines::row_of` meets its contract. What is left is the place of the id among the rows from i on.
-use Prim.Native.Nat.{◌-◌}
 use mathlib.Core.Path.{sym, ◌∙◌}
 use native.Mathlib.Omega.{arith}
 use Rattle.reading.specs.Values.{row_in}

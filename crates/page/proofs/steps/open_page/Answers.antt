@@ -19,14 +19,20 @@ has_account-requires c =
 
 pub returns-then-has_account : goal.returns-then-has_account
 returns-then-has_account c =
-    record { step_taken = known_paged _ _ _ _ _ _ c.list_opening-taken.ensures (not-false _ c.if-not-taken.false)
+    record {
+      step_taken = known_paged _ _ _ _ _ _ c.list_opening-taken.ensures (not-false _ c.if-not-taken.false)
           (λ i. omega (arith, c.shared_slice_known-1.given i))
-          _ _ c.has_account.ensures c.if-has_account.true; year_ledger = λ on. year_opened _ _ _ _ _ _ c.list_opening-taken.ensures on
-          (λ i. omega (arith, c.shared_slice_known-1.given i)) }
+          _ _ c.has_account.ensures c.if-has_account.true;
+      year_ledger = λ on. year_opened _ _ _ _ _ _ c.list_opening-taken.ensures on
+          (λ i. omega (arith, c.shared_slice_known-1.given i));
+    }
 
 pub returns : goal.returns
 returns c =
-    record { step_taken = foreign_paged _ _ _ _ _ _ c.list_opening-taken.ensures (not-false _ c.if-not-taken.false)
+    record {
+      step_taken = foreign_paged _ _ _ _ _ _ c.list_opening-taken.ensures (not-false _ c.if-not-taken.false)
           (λ i. omega (arith, c.shared_slice_known-1.given i))
           _ _ c.has_account.ensures c.if-has_account.false _ _ c.put_refused-end.ensures.out_after
-          c.put_refused-end.ensures.value (omega arith); year_ledger = λ on. never on }
+          c.put_refused-end.ensures.value (omega arith);
+      year_ledger = λ on. never on;
+    }

@@ -15,10 +15,15 @@ use Rattle.page.proofs.steps.page_settled.Goals as goal
 
 pub returns-then-ground-ne0 : goal.returns-then-ground-ne0
 returns-then-ground-ne0 c =
-    record { step_taken = refused_paged _ _ _ _ _ _ _ c.requires.res_value c.settle_file-ground.ensures.answer c.settle_file-ground.ensures.ledger_bytes
+    record {
+      step_taken = refused_paged _ _ _ _ _ _ _ c.requires.res_value c.settle_file-ground.ensures.answer c.settle_file-ground.ensures.ledger_bytes
           c.settle_file-ground.ensures.result_bytes
           c.args.page _ _ _ c.if-ground-ne0.true c.put_refused-end.ensures.out_after c.put_refused-end.ensures.value
-          (omega arith); id_value = refl; page_fits_2 = page_more _ _ _ c.requires.page_fits (omega arith) (omega arith); year_ledger_2 = year_settled _ _ _ c.requires.year_ledger c.settle_file-ground.ensures.ledger_bytes }
+          (omega arith);
+      id_value = refl;
+      page_fits_2 = page_more _ _ _ c.requires.page_fits (omega arith) (omega arith);
+      year_ledger_2 = year_settled _ _ _ c.requires.year_ledger c.settle_file-ground.ensures.ledger_bytes;
+    }
 
 pub header_of-h-requires : goal.header_of-h-requires
 header_of-h-requires c =
@@ -42,9 +47,14 @@ returns-then-h-i c =
     = accepted _ _ _ (sym c.settle_file-ground.ensures.answer ∙ c.if-ground-ne0.false) in
     let tabled : Tabled c.args.file.now c.header_of-h.result
     = subst (Tabled _) (sym (ap header_said c.header_of-h.ensures)) (passed).passed.tabled in
-    record { step_taken = none_paged _ _ _ _ _ _ _ c.requires.res_value c.settle_file-ground.ensures.answer c.settle_file-ground.ensures.ledger_bytes
+    record {
+      step_taken = none_paged _ _ _ _ _ _ _ c.requires.res_value c.settle_file-ground.ensures.answer c.settle_file-ground.ensures.ledger_bytes
           c.settle_file-ground.ensures.result_bytes
-          c.args.page c.if-ground-ne0.false _ (omega (arith, c.if-h-i.true, c.row_of-i.ensures.value, length_tabled (tabled))); id_value = refl; page_fits_2 = page_more _ _ _ c.requires.page_fits (omega arith) (omega arith); year_ledger_2 = year_settled _ _ _ c.requires.year_ledger c.settle_file-ground.ensures.ledger_bytes }
+          c.args.page c.if-ground-ne0.false _ (omega (arith, c.if-h-i.true, c.row_of-i.ensures.value, length_tabled (tabled)));
+      id_value = refl;
+      page_fits_2 = page_more _ _ _ c.requires.page_fits (omega arith) (omega arith);
+      year_ledger_2 = year_settled _ _ _ c.requires.year_ledger c.settle_file-ground.ensures.ledger_bytes;
+    }
 
 pub page_row-requires : goal.page_row-requires
 unfolding result_bytes header_in terms_in
@@ -76,7 +86,12 @@ returns c =
     balance_in _ _ _ _ _ _ (sym c.settle_file-ground.ensures.answer ∙ c.if-ground-ne0.false)
     c.settle_file-ground.ensures.result_bytes c.row_of-i.ensures.value low in
     let paged = c.page_row.ensures in
-    record { step_taken = row_paged _ _ _ _ _ _ _ c.requires.res_value c.settle_file-ground.ensures.answer c.settle_file-ground.ensures.ledger_bytes
+    record {
+      step_taken = row_paged _ _ _ _ _ _ _ c.requires.res_value c.settle_file-ground.ensures.answer c.settle_file-ground.ensures.ledger_bytes
           c.settle_file-ground.ensures.result_bytes
           c.args.page c.if-ground-ne0.false _ _ _ _ _ c.row_of-i.ensures.value low
-          (ap (λ h. h.interval) c.header_of-h.ensures) paged; id_value = paged.id; page_fits_2 = page_more _ _ _ c.requires.page_fits (omega (arith, paged.shortfall, words.0)) (omega (arith, paged.bonus, words.1)); year_ledger_2 = year_settled _ _ _ c.requires.year_ledger c.settle_file-ground.ensures.ledger_bytes }
+          (ap (λ h. h.interval) c.header_of-h.ensures) paged;
+      id_value = paged.id;
+      page_fits_2 = page_more _ _ _ c.requires.page_fits (omega (arith, paged.shortfall, words.0)) (omega (arith, paged.bonus, words.1));
+      year_ledger_2 = year_settled _ _ _ c.requires.year_ledger c.settle_file-ground.ensures.ledger_bytes;
+    }

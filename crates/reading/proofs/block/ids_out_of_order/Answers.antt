@@ -1,8 +1,7 @@
 -- `reading::block::ids_out_of_order` meets its contract. Left to test is whether the ids from i on rise above the last.
-use Prim.Native.Nat.{◌-◌}
 use mathlib.Core.Path.{refl, sym}
 use native.Mathlib.Omega.{arith}
-use lib.ListN.{drop, drop_of_length-le}
+use lib.ListN.{drop_of_length-le}
 use Rattle.reading.specs.Block.{block_of}
 use Rattle.reading.proofs.Facts.{length_listed}
 use Rattle.reading.proofs.Order.{next_at, order_broken, order_goes_on, order_holds}

@@ -1,5 +1,4 @@
 -- `reading::scan::kinds_outside` meets its contract. Left to test are the schedules from k on.
-use Prim.Native.Nat.{◌-◌}
 use mathlib.Core.Path.{sym, ap}
 use mathlib.Core.Bool.{true, false}
 use native.Mathlib.Omega.{arith}

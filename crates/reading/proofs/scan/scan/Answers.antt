@@ -1,6 +1,5 @@
 -- `reading::scan::scan` meets its contract. Left to test are the rows from i on for ground 13, those from m on for 18,
 -- then for 14 those from n on, in row n the schedules from k on, and in schedule k the points from j on.
-use Prim.Native.Nat.{◌-◌}
 use mathlib.Core.Path.{refl, sym, ap, ◌∙◌}
 use mathlib.Core.Bool.{true, false}
 use native.Mathlib.Omega.{arith}

@@ -2,7 +2,6 @@
 -- leave little room; what refuses leaves both buffers as they were.
 use Prim.Native.Nat.{◌*◌, ◌≤◌}
 use mathlib.Core.Path.{◌≡◌, sym, ap, ap₂, ◌∙◌}
-use mathlib.Core.Logic.{⊎_elim}
 use mathlib.Core.Bool.{false}
 use native.Mathlib.Omega.{arith}
 use borrow.Author.Tests.{ltb-false}
@@ -122,9 +121,9 @@ write_settled-requires c =
     = let room = c.room.ensures in let most = ap (λ cents. most_rows * cents) most_charge_lem in
     let below = ap₂ ltb (sym room) most ∙ sym c.below.ensures in
     elim c.else-below.branch [
-      else-below-via-then-below+else-pool_too_large w ↦
-        ltb-false most_cents _ (sym w.pool_too_large.ensures ∙ w.if-pool_too_large.false)
-    | else-below-via-else-below w ↦ pool_fits ruled_out (below ∙ w.if-below.false)
+      | else-below-via-then-below+else-pool_too_large w ↦
+          ltb-false most_cents _ (sym w.pool_too_large.ensures ∙ w.if-pool_too_large.false)
+      | else-below-via-else-below w ↦ pool_fits ruled_out (below ∙ w.if-below.false)
     ] in
     let args = c.args in let room = result_room _ _ args.res.now _ c.header_of-h.ensures (none_later) in
     let made = c.ratio_of-ratio.ensures in
@@ -147,9 +146,9 @@ returns c =
     = let room = c.room.ensures in let most = ap (λ cents. most_rows * cents) most_charge_lem in
     let below = ap₂ ltb (sym room) most ∙ sym c.below.ensures in
     elim c.else-below.branch [
-      else-below-via-then-below+else-pool_too_large w ↦
-        ltb-false most_cents _ (sym w.pool_too_large.ensures ∙ w.if-pool_too_large.false)
-    | else-below-via-else-below w ↦ pool_fits ruled_out (below ∙ w.if-below.false)
+      | else-below-via-then-below+else-pool_too_large w ↦
+          ltb-false most_cents _ (sym w.pool_too_large.ensures ∙ w.if-pool_too_large.false)
+      | else-below-via-else-below w ↦ pool_fits ruled_out (below ∙ w.if-below.false)
     ] in
     let written = c.write_settled.ensures in let none = none_applies in
     let both = end_settled _ _ _ none _ _ (small) written.ledger_after written.res_after in

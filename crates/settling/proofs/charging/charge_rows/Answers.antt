@@ -1,6 +1,6 @@
 -- `settling::charging::charge_rows`: what is left to add and to write is that of the rows from i on, each found by the
 -- walk from its account on.
-use Prim.Native.Nat.{◌+◌, ◌-◌, ◌≤◌}
+use Prim.Native.Nat.{◌+◌, ◌≤◌}
 use mathlib.Core.Path.{◌≡◌, refl, sym, subst, ◌∙◌}
 use native.Mathlib.Omega.{arith}
 use Rattle.reading.specs.Values.{row_in}

@@ -2,7 +2,7 @@
 -- from where it stands on, does
 -- not find the ids of all rows from i on. The measure is what is left of the rows.
 use native.Mathlib.Omega.{arith}
-use Prim.Native.Nat.{◌+◌, ◌-◌}
+use Prim.Native.Nat.{◌+◌}
 use mathlib.Core.Path.{refl, sym, ap, subst, ◌∙◌}
 use borrow.Author.Tests.{leb-true, leb-false}
 use Rattle.reading.specs.Values.{row_in}

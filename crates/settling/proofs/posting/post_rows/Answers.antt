@@ -1,6 +1,6 @@
 -- `settling::posting::post_rows`: what is left to credit and to post is that of the rows from i on, each found by the
 -- walk from its account on.
-use Prim.Native.Nat.{◌+◌, ◌-◌, ◌≤◌}
+use Prim.Native.Nat.{◌+◌, ◌≤◌}
 use mathlib.Core.Path.{◌≡◌, refl, sym, subst, ◌∙◌}
 use native.Mathlib.Omega.{arith}
 use lib.ListN.{length}

@@ -2,7 +2,6 @@
 -- walk from its account on.
 use Prim.Native.Nat.{◌-◌, ◌≤◌}
 use mathlib.Core.Path.{◌≡◌}
-use Rattle.assessment.specs.Assessment.{credit}
 use Rattle.settling.proofs.BudgetLaws.{Budget}
 use Rattle.settling.proofs.PostingLaws.{Pass}
 use Rattle.settling.proofs.posting.post_rows.Given as goal

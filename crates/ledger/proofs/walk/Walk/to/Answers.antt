@@ -1,6 +1,5 @@
 -- `ledger::walk::Walk::to` meets its contract. The invariant:
 -- the id, if it is still to come, stands where a walk from the first place on finds it.
-use Prim.Native.Nat.{◌-◌}
 use mathlib.Core.Path.{refl, sym, ◌∙◌}
 use native.Mathlib.Omega.{arith}
 use borrow.Author.Rules.{rules}
