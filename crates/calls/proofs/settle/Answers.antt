@@ -5,5 +5,9 @@ use Rattle.calls.proofs.settle.Goals as goal
 
 pub returns : goal.returns
 returns c =
-    let start = c.args in let given = ap (λ f. settling start.ledger.now f start.res.now) c.file.ensures in
-    record { ledger_after = c.npa_settle.ensures.ledger_bytes ∙ ap (λ a. a.ledger) given; res_after = c.npa_settle.ensures.result_bytes ∙ ap (λ a. a.result) given }
+    let start = c.args in
+    let given = ap (λ f. settling start.ledger.now f start.res.now) c.file.ensures in
+    record {
+      ledger_after = c.npa_settle.ensures.ledger_bytes ∙ ap (λ a. a.ledger) given;
+      res_after = c.npa_settle.ensures.result_bytes ∙ ap (λ a. a.result) given;
+    }

@@ -8,7 +8,12 @@ use Rattle.event.proofs.FileLaws.{cut_length, cut_file, whole_file}
 use Rattle.event.proofs.next_file.Goals as goal
 
 pub returns-then-left-lt-LENGTH_BYTES : goal.returns-then-left-lt-LENGTH_BYTES
-returns-then-left-lt-LENGTH_BYTES c = record { next = cut_length _ _ c.requires (omega arith); after_length = λ z. never z; ends_later = omega arith; within = omega arith }
+returns-then-left-lt-LENGTH_BYTES c = record {
+  next = cut_length _ _ c.requires (omega arith);
+  after_length = λ z. never z;
+  ends_later = omega arith;
+  within = omega arith;
+}
 
 pub returns-then-left-bytes : goal.returns-then-left-bytes
 returns-then-left-bytes c =

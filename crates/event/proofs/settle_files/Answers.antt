@@ -10,7 +10,8 @@ pub loop-at-init : goal.loop-at-init
 loop-at-init c = (going_start _ _ _, refl, refl)
 
 pub returns-then-not-place : goal.returns-then-not-place
-returns-then-not-place c = going_cut c.loop-at.invariant.0 _ c.next_file-place.ensures (not-true _ c.if-not-place.true)
+returns-then-not-place c =
+    going_cut c.loop-at.invariant.0 _ c.next_file-place.ensures (not-true _ c.if-not-place.true)
 
 pub slice_bounds-settle_next-count : goal.slice_bounds-settle_next-count
 slice_bounds-settle_next-count c = omega (arith, c.next_file-place.ensures)
@@ -30,11 +31,15 @@ returns-then-turn-ne0 c =
     c.settle_next-turn.ensures c.if-turn-ne0.true
 
 pub loop-at-smaller : goal.loop-at-smaller
-loop-at-smaller c = let due = c.next_file-place.ensures in omega (arith, due.after_length (not-false _ c.if-not-place.false), due.ends_later, due.within)
+loop-at-smaller c =
+    let due = c.next_file-place.ensures in
+    omega
+    (arith, due.after_length (not-false _ c.if-not-place.false), due.ends_later, due.within)
 
 pub loop-at-preserved : goal.loop-at-preserved
 loop-at-preserved c =
-    let l = c.loop-at.invariant in (
+    let l = c.loop-at.invariant in
+    (
       going_on l.0 _ c.next_file-place.ensures (not-false _ c.if-not-place.false) _ _ _ c.settle_next-turn.ensures
           c.if-turn-ne0.false,
       omega (arith, c.settle_next-turn.auto, l),

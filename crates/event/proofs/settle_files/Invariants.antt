@@ -9,7 +9,8 @@ use Rattle.event.proofs.settle_files.Given as goal
 
 abbrev pub invariant-loop-at : goal.invariant-loop-at
 invariant-loop-at l =
-    Going (settled_files (length l.files + 1) l.initial.ledger l.files l.initial.res) l.files l.ledger l.res l.settled l.at l.filled
+    Going (settled_files
+    (length l.files + 1) l.initial.ledger l.files l.initial.res) l.files l.ledger l.res l.settled l.at l.filled
     × (length l.ledger ≡ length l.initial.ledger)
     × (length l.res ≡ length l.initial.res)
 

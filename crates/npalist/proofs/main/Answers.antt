@@ -7,4 +7,9 @@ use Rattle.npalist.proofs.main.Goals as goal
 
 pub run-requires : goal.run-requires
 unfolding ledger_buffer ledger_bytes
-run-requires c = record { ledger_value = refl; head_len = search rules; block_len = search rules; block_room_in_bounds = search rules }
+run-requires c = record {
+  ledger_value = refl;
+  head_len = search rules;
+  block_len = search rules;
+  block_room_in_bounds = search rules;
+}

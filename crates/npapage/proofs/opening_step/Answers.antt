@@ -23,7 +23,7 @@ pub slice_bounds-page_opening-end-4 : goal.slice_bounds-page_opening-end-4
 slice_bounds-page_opening-end-4 c =
     let within : c.read_next-read.result.block ≤ length c.read_next-read.new.block
     = read_within _ _ c.read_next-read.new.block _ c.read_next-read.ensures (omega arith) in
-    sym (length-take-le _ _ (within))
+    sym (length-take-le _ _ within)
 
 pub page_opening-taken-requires : goal.page_opening-taken-requires
 page_opening-taken-requires c =
@@ -32,7 +32,7 @@ page_opening-taken-requires c =
     let by_number : ReadNext (most_bytes 0) c.read_next-read.new.head c.read_next-read.result
     = rw c.most_bytes.ensures.value at c.read_next-read.ensures in
     let head = length-take-le c.read_next-read.result.length c.read_next-read.new.head (omega arith) in
-    let block = length-take-le c.read_next-read.result.block c.read_next-read.new.block (within) in
+    let block = length-take-le c.read_next-read.result.block c.read_next-read.new.block within in
     let says = by_number in
     record { head_in_bounds = omega arith; block_len_bound = omega arith; step_room_in_bounds = omega arith }
 
@@ -40,4 +40,8 @@ pub returns : goal.returns
 returns c =
     let by_number : ReadNext (most_bytes 0) c.read_next-read.new.head c.read_next-read.result
     = rw c.most_bytes.ensures.value at c.read_next-read.ensures in
-    record { read_next = by_number; step_taken = c.page_opening-taken.ensures.step_taken; year_ledger = c.page_opening-taken.ensures.year_ledger }
+    record {
+      read_next = by_number;
+      step_taken = c.page_opening-taken.ensures.step_taken;
+      year_ledger = c.page_opening-taken.ensures.year_ledger;
+    }

@@ -8,4 +8,10 @@ pub slice_bounds-due_part-end-2 : goal.slice_bounds-due_part-end-2
 slice_bounds-due_part-end-2 c = sym (length-take-le _ _ (omega arith))
 
 pub returns : goal.returns
-returns c = let part = c.due_part-part in record { few = omega arith; asked = part.ensures.result_len; no_more = omega arith }
+returns c =
+    let part = c.due_part-part in
+    record {
+  few = omega arith;
+  asked = part.ensures.result_len;
+  no_more = omega arith;
+}

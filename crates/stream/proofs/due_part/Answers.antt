@@ -10,5 +10,9 @@ slice_bounds-result-end c = sym (length-take-le _ _ (omega arith))
 
 pub returns : goal.returns
 returns c =
-    let due = c.bytes_due-due in let buffer = c.args.buffer.now in
-    record { result_value = ap (λ n. take n buffer) due.ensures.value; result_len = length-take-le due.result buffer (omega arith) ∙ due.ensures.value }
+    let due = c.bytes_due-due in
+    let buffer = c.args.buffer.now in
+    record {
+      result_value = ap (λ n. take n buffer) due.ensures.value;
+      result_len = length-take-le due.result buffer (omega arith) ∙ due.ensures.value;
+    }

@@ -7,12 +7,16 @@ use Rattle.stream.proofs.next_block.Goals as goal
 
 pub returns-then-got-eq0 : goal.returns-then-got-eq0
 unfolding found_as
-returns-then-got-eq0 c = let s = c.args in next_ended _ _ (omega (arith, length-append s.head.now s.block.now, due_cut s.most s.head.now (omega arith)))
+returns-then-got-eq0 c =
+    let s = c.args in
+    next_ended _ _
+    (omega (arith, length-append s.head.now s.block.now, due_cut s.most s.head.now (omega arith)))
 
 pub returns-then-got-lt-LENGTH_BYTES : goal.returns-then-got-lt-LENGTH_BYTES
 unfolding found_as
 returns-then-got-lt-LENGTH_BYTES c =
-    let s = c.args in let long = length-append s.head.now s.block.now in
+    let s = c.args in
+    let long = length-append s.head.now s.block.now in
     next_cut _ _ (λ e. omega arith) (omega (arith, due_cut s.most s.head.now (omega arith)))
 
 pub returns-then-most-bytes : goal.returns-then-most-bytes
@@ -21,10 +25,13 @@ returns-then-most-bytes c = next_over _ _ _ (omega arith) _ c.number32-bytes.ens
 
 pub returns-then-block-bytes : goal.returns-then-block-bytes
 unfolding found_as
-returns-then-block-bytes c = next_short _ _ _ (omega arith) _ c.number32-bytes.ensures.value (omega arith) (omega arith)
+returns-then-block-bytes c =
+    next_short _ _ _ (omega arith) _ c.number32-bytes.ensures.value (omega arith) (omega arith)
 
 pub returns : goal.returns
 unfolding found_as
 returns c =
-    let n = c.number32-bytes in let s = c.args in let due = due_within s.most s.head.now (omega arith) n.result n.ensures.value (omega arith) in
+    let n = c.number32-bytes in
+    let s = c.args in
+    let due = due_within s.most s.head.now (omega arith) n.result n.ensures.value (omega arith) in
     next_whole _ _ _ (omega arith) _ n.ensures.value (omega arith) (omega arith)

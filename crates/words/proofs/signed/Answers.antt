@@ -28,4 +28,7 @@ overflow_sub-result c = subst (SFits w64) (sym (is c)) (small c)
 pub returns : goal.returns
 returns c =
     let held = ap (λ z. to_z w64 (of_z w64 z)) (is c) ∙ to_z-of_z w64 (signed c.args.w) (small c) in
-    record { value = held; result_bound = subst (λ z. mag z < 2147483648) (sym held) (signed_size c.args.w (omega arith)) }
+    record {
+      value = held;
+      result_bound = subst (λ z. mag z < 2147483648) (sym held) (signed_size c.args.w (omega arith));
+    }

@@ -8,7 +8,8 @@ use Rattle.words.proofs.store32.Given as goal
 abbrev pub invariant-loop-i : goal.invariant-loop-i
 invariant-loop-i l =
     (l.i ≤ length l.s)
-    × ((placed_at (4 * l.i) (bytes_of_words 4 (drop l.i l.s)) l.b ≡ placed_at 0 (bytes_of_words 4 l.s) l.initial.b) × (length l.b ≡ length l.initial.b))
+    × ((placed_at (4 * l.i) (bytes_of_words 4 (drop l.i l.s)) l.b ≡ placed_at 0 (bytes_of_words 4 l.s) l.initial.b)
+    × (length l.b ≡ length l.initial.b))
 
 abbrev pub decreases-loop-i : goal.decreases-loop-i
 decreases-loop-i l = length l.s - l.i

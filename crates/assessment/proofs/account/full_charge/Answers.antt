@@ -14,7 +14,10 @@ use Rattle.assessment.proofs.account.full_charge.Goals as goal
 
 pub overflow_mul-product : goal.overflow_mul-product
 unfolding terms_in
-overflow_mul-product c = omega (arith, mul-le-mul c.requires.short_le_most_kilowatts (terms_in_lem (terms_in c.args.terms) c.requires.terms_value).net_cone)
+overflow_mul-product c =
+    omega (arith,
+    mul-le-mul c.requires.short_le_most_kilowatts
+    (terms_in_lem (terms_in c.args.terms) c.requires.terms_value).net_cone)
 
 pub overflow_mul-product-2 : goal.overflow_mul-product-2
 unfolding terms_in
@@ -43,11 +46,14 @@ overflow_add-result-in_default c =
 pub returns-in-2016 : goal.returns-in-2016
 unfolding full_charge charge_over terms_in
 returns-in-2016 c =
-    let a = c.args in let t = terms_in a.terms in
+    let a = c.args in
+    let t = terms_in a.terms in
     ap (λ (d : Divisors). charge_over d.charge t a.short.0) (sym (divisors_of_transition t c.in-2016.is))
 
 pub returns-in_default : goal.returns-in_default
 unfolding full_charge charge_over terms_in
 returns-in_default c =
-    let a = c.args in let t = terms_in a.terms in
-    ap (λ (d : Divisors). charge_over d.charge t a.short.0) (sym (divisors_of_others t c.in_default.in_default-own.rest.1))
+    let a = c.args in
+    let t = terms_in a.terms in
+    ap (λ (d : Divisors). charge_over d.charge t a.short.0)
+    (sym (divisors_of_others t c.in_default.in_default-own.rest.1))

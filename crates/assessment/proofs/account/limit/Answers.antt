@@ -26,16 +26,19 @@ pub overflow_mul-product-3 : goal.overflow_mul-product-3
 unfolding terms_in
 overflow_mul-product-3 c =
     let t = terms_in c.args.terms in
-    omega (arith, limit_product_le t c.args.kw.0 (terms_in_lem t c.requires.terms_value) c.requires.kw_le_most_kilowatts)
+    omega (arith,
+    limit_product_le t c.args.kw.0 (terms_in_lem t c.requires.terms_value) c.requires.kw_le_most_kilowatts)
 
 pub returns-in-2016 : goal.returns-in-2016
 unfolding limit limit_over terms_in
 returns-in-2016 c =
-    let a = c.args in let t = terms_in a.terms in
+    let a = c.args in
+    let t = terms_in a.terms in
     ap (λ (d : Divisors). limit_over d.limit t a.kw.0) (sym (divisors_of_transition t c.in-2016.is))
 
 pub returns-in_default : goal.returns-in_default
 unfolding limit limit_over terms_in
 returns-in_default c =
-    let a = c.args in let t = terms_in a.terms in
+    let a = c.args in
+    let t = terms_in a.terms in
     ap (λ (d : Divisors). limit_over d.limit t a.kw.0) (sym (divisors_of_others t c.in_default.in_default-own.rest.1))

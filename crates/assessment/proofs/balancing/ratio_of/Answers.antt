@@ -7,7 +7,8 @@ use Rattle.assessment.proofs.SumLaws.{summed_start, summed_turn, summed_end}
 use Rattle.assessment.proofs.balancing.ratio_of.Goals as goal
 
 pub loop-i-init : goal.loop-i-init
-loop-i-init c = summed_start c.import_share-numerator.ensures.result_value c.import_share-numerator.ensures.result_le_most_imports
+loop-i-init c =
+    summed_start c.import_share-numerator.ensures.result_value c.import_share-numerator.ensures.result_le_most_imports
 
 pub numerator_share-requires : goal.numerator_share-requires
 numerator_share-requires c =
@@ -19,7 +20,7 @@ pub denominator_share-requires : goal.denominator_share-requires
 denominator_share-requires c =
     let row_sound : Sound c.args.file.now (row_in c.row_at-row.result)
     = sound_row c.requires.scanned c.requires.tabled.read c.loop-i.i c.loop-i-test.true c.row_at-row.ensures in
-    (row_sound).in_range
+    row_sound.in_range
 
 pub loop-i-preserved : goal.loop-i-preserved
 unfolding row_of row_with
@@ -28,7 +29,9 @@ loop-i-preserved c =
     let below = c.denominator_share.ensures in
     let schedules = (row_of c.args.file.now (row_in c.row_at-row.result)).schedules in
     let shares = summed_turn c.requires.tabled.read c.loop-i.invariant c.loop-i-test.true c.row_at-row.ensures in
-    rw (c.plus-numerator.ensures, c.plus-denominator.ensures) (shares _ _ above.result_value above.result_le_most_actual (below.result_value schedules) below.result_le_most_kilowatts)
+    rw (c.plus-numerator.ensures, c.plus-denominator.ensures)
+    (shares _ _ above.result_value above.result_le_most_actual
+    (below.result_value schedules) below.result_le_most_kilowatts)
 
 pub returns : goal.returns
 unfolding ratio_in

@@ -16,14 +16,16 @@ use Rattle.assessment.proofs.curve.on_curve.Goals as goal
 pub returns-then-rest-eq0 : goal.returns-then-rest-eq0
 returns-then-rest-eq0 c =
     let learnt : Left (to_z w64 (of_z w64 c.args.lmp)) c.args.n c.args.points.now c.points_left-rest.result
-    = let e = c.points_left-rest.ensures in (e.upper_bound, (e.b_value, (e.lmp_value, e.lmp_value_2))) in
+    = let e = c.points_left-rest.ensures in
+    (e.upper_bound, (e.b_value, (e.lmp_value, e.lmp_value_2))) in
     let left = rw (plain c.args.lmp c.ranges.lmp.sfits) at learnt in
     along_none _ _ _ _ left c.if-rest-eq0.true
 
 pub returns-then-rest-eq1 : goal.returns-then-rest-eq1
 returns-then-rest-eq1 c =
     let learnt : Left (to_z w64 (of_z w64 c.args.lmp)) c.args.n c.args.points.now c.points_left-rest.result
-    = let e = c.points_left-rest.ensures in (e.upper_bound, (e.b_value, (e.lmp_value, e.lmp_value_2))) in
+    = let e = c.points_left-rest.ensures in
+    (e.upper_bound, (e.b_value, (e.lmp_value, e.lmp_value_2))) in
     let left = rw (plain c.args.lmp c.ranges.lmp.sfits) at learnt in
     kw_read _ c.point_at-last.ensures.result_value ∙ along_last _ _ _ _ left c.if-rest-eq1.true
 
@@ -50,10 +52,13 @@ towards-requires c =
 pub returns : goal.returns
 returns c =
     let learnt : Left (to_z w64 (of_z w64 c.args.lmp)) c.args.n c.args.points.now c.points_left-rest.result
-    = let e = c.points_left-rest.ensures in (e.upper_bound, (e.b_value, (e.lmp_value, e.lmp_value_2))) in
+    = let e = c.points_left-rest.ensures in
+    (e.upper_bound, (e.b_value, (e.lmp_value, e.lmp_value_2))) in
     let left = rw (plain c.args.lmp c.ranges.lmp.sfits) at learnt in
     let two_left : 1 < c.points_left-rest.result
     = omega (arith, c.if-rest-eq0.false, c.if-rest-eq1.false) in
-    let lmp = c.args.lmp in let towards = rw (plain lmp c.ranges.lmp.sfits) at c.towards.ensures in
-    let last = c.point_at-last.ensures.result_value in let points = ap₂ (λ p q. along_curve lmp (p ∷ q ∷ [])) last c.point_at.ensures.result_value in
-    towards ∙ points ∙ along_next _ _ _ _ left (two_left)
+    let lmp = c.args.lmp in
+    let towards = rw (plain lmp c.ranges.lmp.sfits) at c.towards.ensures in
+    let last = c.point_at-last.ensures.result_value in
+    let points = ap₂ (λ p q. along_curve lmp (p ∷ q ∷ [])) last c.point_at.ensures.result_value in
+    towards ∙ points ∙ along_next _ _ _ _ left two_left

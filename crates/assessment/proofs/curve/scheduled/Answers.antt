@@ -15,9 +15,13 @@ use Rattle.assessment.proofs.curve.scheduled.Goals as goal
 pub returns-then-lmp-point_at : goal.returns-then-lmp-point_at
 unfolding row_with row_in
 returns-then-lmp-point_at c ss =
-    let lmp_is : let a = c.args in to_z w64 (of_z w64 a.row.lmp) ≡ a.row.lmp
+    let lmp_is : let a = c.args in
+    to_z w64 (of_z w64 a.row.lmp) ≡ a.row.lmp
     = plain c.args.row.lmp (omega arith) in
-    let below : (t : Bool) → let a = c.args in lt_z (to_z w64 (of_z w64 a.row.lmp)) (to_z w64 (of_z w64 c.point_at.result.price)) ≡ t → lt_z a.row.lmp (point_at a.points.now 0).price ≡ t
+    let below : (t : Bool)
+    → let a = c.args in
+    lt_z (to_z w64 (of_z w64 a.row.lmp)) (to_z w64 (of_z w64 c.point_at.result.price)) ≡ t
+    → lt_z a.row.lmp (point_at a.points.now 0).price ≡ t
     = λ _ test. let first = price_read c.point_at.result c.point_at.ensures.result_value c.point_at.ensures.price_bound in
     sym (ap₂ lt_z lmp_is first) ∙ test in
     let r = row_with (row_in c.args.row) ss in
@@ -26,12 +30,19 @@ returns-then-lmp-point_at c ss =
 pub returns-then-point_at-lmp : goal.returns-then-point_at-lmp
 unfolding row_with row_in
 returns-then-point_at-lmp c ss =
-    let lmp_is : let a = c.args in to_z w64 (of_z w64 a.row.lmp) ≡ a.row.lmp
+    let lmp_is : let a = c.args in
+    to_z w64 (of_z w64 a.row.lmp) ≡ a.row.lmp
     = plain c.args.row.lmp (omega arith) in
-    let below : (t : Bool) → let a = c.args in lt_z (to_z w64 (of_z w64 a.row.lmp)) (to_z w64 (of_z w64 c.point_at.result.price)) ≡ t → lt_z a.row.lmp (point_at a.points.now 0).price ≡ t
+    let below : (t : Bool)
+    → let a = c.args in
+    lt_z (to_z w64 (of_z w64 a.row.lmp)) (to_z w64 (of_z w64 c.point_at.result.price)) ≡ t
+    → lt_z a.row.lmp (point_at a.points.now 0).price ≡ t
     = λ _ test. let first = price_read c.point_at.result c.point_at.ensures.result_value c.point_at.ensures.price_bound in
     sym (ap₂ lt_z lmp_is first) ∙ test in
-    let above : (t : Bool) → let a = c.args in lt_z (to_z w64 (of_z w64 c.point_at-2.result.price)) (to_z w64 (of_z w64 a.row.lmp)) ≡ t → lt_z (point_at a.points.now (a.n - 1)).price a.row.lmp ≡ t
+    let above : (t : Bool)
+    → let a = c.args in
+    lt_z (to_z w64 (of_z w64 c.point_at-2.result.price)) (to_z w64 (of_z w64 a.row.lmp)) ≡ t
+    → lt_z (point_at a.points.now (a.n - 1)).price a.row.lmp ≡ t
     = λ _ test. let last = price_read c.point_at-2.result c.point_at-2.ensures.result_value c.point_at-2.ensures.price_bound in
     sym (ap₂ lt_z last lmp_is) ∙ test in
     let r = row_with (row_in c.args.row) ss in
@@ -40,12 +51,19 @@ returns-then-point_at-lmp c ss =
 pub returns : goal.returns
 unfolding row_with row_in
 returns c ss =
-    let lmp_is : let a = c.args in to_z w64 (of_z w64 a.row.lmp) ≡ a.row.lmp
+    let lmp_is : let a = c.args in
+    to_z w64 (of_z w64 a.row.lmp) ≡ a.row.lmp
     = plain c.args.row.lmp (omega arith) in
-    let below : (t : Bool) → let a = c.args in lt_z (to_z w64 (of_z w64 a.row.lmp)) (to_z w64 (of_z w64 c.point_at.result.price)) ≡ t → lt_z a.row.lmp (point_at a.points.now 0).price ≡ t
+    let below : (t : Bool)
+    → let a = c.args in
+    lt_z (to_z w64 (of_z w64 a.row.lmp)) (to_z w64 (of_z w64 c.point_at.result.price)) ≡ t
+    → lt_z a.row.lmp (point_at a.points.now 0).price ≡ t
     = λ _ test. let first = price_read c.point_at.result c.point_at.ensures.result_value c.point_at.ensures.price_bound in
     sym (ap₂ lt_z lmp_is first) ∙ test in
-    let above : (t : Bool) → let a = c.args in lt_z (to_z w64 (of_z w64 c.point_at-2.result.price)) (to_z w64 (of_z w64 a.row.lmp)) ≡ t → lt_z (point_at a.points.now (a.n - 1)).price a.row.lmp ≡ t
+    let above : (t : Bool)
+    → let a = c.args in
+    lt_z (to_z w64 (of_z w64 c.point_at-2.result.price)) (to_z w64 (of_z w64 a.row.lmp)) ≡ t
+    → lt_z (point_at a.points.now (a.n - 1)).price a.row.lmp ≡ t
     = λ _ test. let last = price_read c.point_at-2.result c.point_at-2.ensures.result_value c.point_at-2.ensures.price_bound in
     sym (ap₂ lt_z last lmp_is) ∙ test in
     let r = row_with (row_in c.args.row) ss in
@@ -53,4 +71,5 @@ returns c ss =
     let least = c.minimum_online-least.ensures ss in
     c.lesser.ensures
     ∙ ap (λ x. min x r.maximum) c.greater.ensures
-    ∙ scheduled_along _ _ r c.requires.n_nonzero (below _ c.if-lmp-point_at.false) (above _ c.if-point_at-lmp.false) _ _ kw least
+    ∙ scheduled_along _ _ r c.requires.n_nonzero (below _ c.if-lmp-point_at.false)
+    (above _ c.if-point_at-lmp.false) _ _ kw least

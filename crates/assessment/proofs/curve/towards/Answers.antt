@@ -48,7 +48,12 @@ along-requires c =
     let whole : c.gap-2.result ≡ nat_abs (c.args.next.price -ℤ c.args.p.price) = rw (pq, pp) at c.gap-2.ensures in
     let lt = part_lt between in
     let le = whole_le between in
-    record { base_bound = omega arith; part_lt_whole = omega arith; rise_bound = omega arith; whole_bound = omega arith }
+    record {
+      base_bound = omega arith;
+      part_lt_whole = omega arith;
+      rise_bound = omega arith;
+      whole_bound = omega arith;
+    }
 
 pub returns : goal.returns
 unfolding along_curve point_in

@@ -18,22 +18,30 @@ pub returns-then-on-eq0 : goal.returns-then-on-eq0
 unfolding from_last_reached first_kw row_in schedule_in
 returns-then-on-eq0 c =
     let none = on_nothing c.requires.sound c.dispatched_on-on.ensures c.if-on-eq0.true in
-    ap (λ ps. ltb 0 (first_kw (from_last_reached ((row_of c.args.file.now (row_in c.args.row))).lmp ps))) (sym (none_curve ((row_of c.args.file.now (row_in c.args.row))) none))
+    ap (λ ps. ltb 0 (first_kw (from_last_reached (row_of c.args.file.now (row_in c.args.row)).lmp ps)))
+    (sym (none_curve (row_of c.args.file.now (row_in c.args.row)) none))
 
 pub curve-requires : goal.curve-requires
 unfolding row_in schedule_in
 curve-requires c =
-    let among : let a = c.args in a.row.dispatched < length (schedules_named a.file.now (row_in a.row))
+    let among : let a = c.args in
+    a.row.dispatched < length (schedules_named a.file.now (row_in a.row))
     = on_something c.requires.sound c.dispatched_on-on.ensures c.if-on-eq0.false in
-    record { tabled = c.requires.tabled; s_value = curve_lies (read_sound c.requires.sound (among) c.dispatched_on-on.ensures) c.requires.tabled.read }
+    record {
+      tabled = c.requires.tabled;
+      s_value = curve_lies (read_sound c.requires.sound among c.dispatched_on-on.ensures) c.requires.tabled.read;
+    }
 
 pub returns : goal.returns
 unfolding row_of row_with row_in schedule_in
 returns c =
-    let among : let a = c.args in a.row.dispatched < length (schedules_named a.file.now (row_in a.row))
+    let among : let a = c.args in
+    a.row.dispatched < length (schedules_named a.file.now (row_in a.row))
     = on_something c.requires.sound c.dispatched_on-on.ensures c.if-on-eq0.false in
-    let lmp = c.args.row.lmp in let small = (sound_in c.requires.sound []).lmp in
+    let lmp = c.args.row.lmp in
+    let small = (sound_in c.requires.sound []).lmp in
     let found = rw (plain lmp (omega (arith, mag_le lmp, small))) at c.consumes.ensures in
-    let f = c.args.file.now in let w = row_in c.args.row in
-    let curve = read_curve f w (among) c.dispatched_on-on.ensures c.curve.ensures.result_value in
+    let f = c.args.file.now in
+    let w = row_in c.args.row in
+    let curve = read_curve f w among c.dispatched_on-on.ensures c.curve.ensures.result_value in
     found ∙ ap (λ ps. ltb 0 (first_kw (from_last_reached lmp ps))) curve

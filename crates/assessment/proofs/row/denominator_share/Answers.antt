@@ -11,10 +11,16 @@ pub returns-in-0 : goal.returns-in-0
 unfolding row_with row_in
 returns-in-0 c =
     let w = row_in c.args.row in
-    record { result_value = λ ss. denominator_generation (row_with w ss) c.in-0.is; result_le_most_kilowatts = (row_in_lem w [] c.requires).committed }
+    record {
+      result_value = λ ss. denominator_generation (row_with w ss) c.in-0.is;
+      result_le_most_kilowatts = (row_in_lem w [] c.requires).committed;
+    }
 
 pub returns-in_default : goal.returns-in_default
 unfolding row_with row_in
 returns-in_default c =
     let w = row_in c.args.row in
-    record { result_value = λ ss. denominator_other (row_with w ss) c.in_default.in_default-own.rest.1; result_le_most_kilowatts = omega arith }
+    record {
+      result_value = λ ss. denominator_other (row_with w ss) c.in_default.in_default-own.rest.1;
+      result_le_most_kilowatts = omega arith;
+    }

@@ -13,14 +13,18 @@ use Rattle.assessment.proofs.row.produced.Goals as goal
 pub returns : goal.returns
 unfolding figures_in economic_rule row_of row_with row_in
 returns c =
-    let economic_is : c.less-econ.result.0 ≡ economic_rule ((row_of c.args.file.now (row_in c.args.row))) c.args.expect.0
-    = let left = c.available.ensures ((row_of c.args.file.now (row_in c.args.row))).schedules in
+    let economic_is : c.less-econ.result.0
+    ≡ economic_rule (row_of c.args.file.now (row_in c.args.row)) c.args.expect.0
+    = let left = c.available.ensures (row_of c.args.file.now (row_in c.args.row)).schedules in
     let top = c.lesser-most.ensures ∙ ap₂ min c.lesser.ensures left ∙ least _ _ _ in
     let bottom = c.greater.ensures ∙ ap₂ max c.offered-given.ensures.economic_value c.requires.act_value in
     c.less-econ.ensures ∙ ap₂ ◌-◌ top bottom in
-    let a = c.args in let x = a.expect.0 in let missing : c.less-3.result.0 ≡ x - (a.act.0 + a.row.planned + economic_rule ((row_of c.args.file.now (row_in c.args.row))) x)
+    let a = c.args in
+    let x = a.expect.0 in
+    let missing : c.less-3.result.0
+    ≡ x - (a.act.0 + a.row.planned + economic_rule (row_of c.args.file.now (row_in c.args.row)) x)
     = omega (arith, c.less-3.ensures, c.less-2.ensures, c.less.ensures, economic_is) in
-    let over : c.less-4.result.0 ≡ min a.act.0 (bonus_cut ((row_of c.args.file.now (row_in c.args.row)))) - x
+    let over : c.less-4.result.0 ≡ min a.act.0 (bonus_cut (row_of c.args.file.now (row_in c.args.row))) - x
     = omega (arith, c.less-4.ensures, c.lesser-2.ensures, c.offered-given.ensures.cut_value) in
     λ i. record {
       expected = x;

@@ -15,7 +15,10 @@ returns-then-below c =
     sym (search holds)
 
 pub limit-requires : goal.limit-requires
-limit-requires c = record { terms_value = c.requires; kw_le_most_kilowatts = ltb-false 4000000 c.args.a.largest.0 (sym c.below.ensures ∙ c.if-below.false) }
+limit-requires c = record {
+  terms_value = c.requires;
+  kw_le_most_kilowatts = ltb-false 4000000 c.args.a.largest.0 (sym c.below.ensures ∙ c.if-below.false);
+}
 
 pub returns-then-below-2 : goal.returns-then-below-2
 unfolding account_in

@@ -6,7 +6,15 @@ use native.Mathlib.Omega.{arith}
 use borrow.Author.Rules.{rules}
 use Rattle.assessment.specs.Values.{account_in}
 use Rattle.ledger.specs.Ledger.{ledger_bytes}
-use Rattle.ledger.proofs.GroundSixLaws.{passing_start, id_low, account_refused, charged_most, credited_most, passing_turn, passing_end}
+use Rattle.ledger.proofs.GroundSixLaws.{
+  passing_start,
+  id_low,
+  account_refused,
+  charged_most,
+  credited_most,
+  passing_turn,
+  passing_end,
+}
 use Rattle.ledger.proofs.ground_six.accounts_refused.Goals as goal
 
 pub loop-j-init : goal.loop-j-init
@@ -18,13 +26,18 @@ account_at-a-requires c = search rules
 
 pub returns-then-a-last : goal.returns-then-a-last
 unfolding account_in
-returns-then-a-last c = let says = c.requires.s_value in sym (id_low c.loop-j.invariant says (omega arith) _ c.account_at-a.ensures c.if-a-last.true)
+returns-then-a-last c =
+    let says = c.requires.s_value in
+    sym
+    (id_low c.loop-j.invariant says (omega arith) _ c.account_at-a.ensures c.if-a-last.true)
 
 pub returns-then-account_outside : goal.returns-then-account_outside
 unfolding account_in
 returns-then-account_outside c =
     let outside = sym c.account_outside.ensures ∙ c.if-account_outside.true in
-    let says = c.requires.s_value in sym (account_refused c.loop-j.invariant says (omega arith) _ c.account_at-a.ensures outside)
+    let says = c.requires.s_value in
+    sym
+    (account_refused c.loop-j.invariant says (omega arith) _ c.account_at-a.ensures outside)
 
 pub plus-charged-requires : goal.plus-charged-requires
 unfolding account_in
@@ -48,7 +61,8 @@ pub loop-j-preserved : goal.loop-j-preserved
 unfolding account_in
 loop-j-preserved c =
     let within = sym c.account_outside.ensures ∙ c.if-account_outside.false in
-    passing_turn c.loop-j.invariant c.requires.s_value (omega arith) _ c.account_at-a.ensures c.requires.terms_value within
+    passing_turn c.loop-j.invariant c.requires.s_value
+    (omega arith) _ c.account_at-a.ensures c.requires.terms_value within
     (omega arith) _ _ c.plus-charged.ensures c.plus-credited.ensures
 
 pub returns : goal.returns

@@ -18,18 +18,29 @@ standing_of-s-requires c = laid_long c.args.ledger.now (sym c.not_laid_out.ensur
 
 pub returns-then-standing_outside : goal.returns-then-standing_outside
 unfolding terms_in
-returns-then-standing_outside c = let b = c.args.ledger.now in sym (standing_refuses b _ c.standing_of-s.ensures c.standing_outside.ensures c.if-standing_outside.true)
+returns-then-standing_outside c =
+    let b = c.args.ledger.now in
+    sym
+    (standing_refuses b _ c.standing_of-s.ensures c.standing_outside.ensures c.if-standing_outside.true)
 
 pub accounts_refused-requires : goal.accounts_refused-requires
 unfolding outside ledger_terms_outside
 accounts_refused-requires c =
     let within = sym c.standing_outside.ensures ∙ c.if-standing_outside.false in
     let says = c.standing_of-s.ensures in
-    record { s_value = says; terms_value = search facts depth 9; accounts_le_most_ids = search facts depth 9; accounts_in_bounds = search facts depth 9; carried_le_most_cents = search facts depth 9 }
+    record {
+      s_value = says;
+      terms_value = search facts depth 9;
+      accounts_le_most_ids = search facts depth 9;
+      accounts_in_bounds = search facts depth 9;
+      carried_le_most_cents = search facts depth 9;
+    }
 
 pub returns : goal.returns
 unfolding terms_in
 returns c =
-    let b = c.args.ledger.now in let laid = sym c.not_laid_out.ensures ∙ c.if-not_laid_out.false in
-    let says = c.standing_of-s.ensures in c.accounts_refused.ensures
+    let b = c.args.ledger.now in
+    let laid = sym c.not_laid_out.ensures ∙ c.if-not_laid_out.false in
+    let says = c.standing_of-s.ensures in
+    c.accounts_refused.ensures
     ∙ sym (accounts_decide b _ says c.standing_outside.ensures laid c.if-standing_outside.false)

@@ -14,13 +14,19 @@ returns-then-terms_refused c =
     sym (search holds depth 9)
 
 pub returns-then-s-lt1 : goal.returns-then-s-lt1
-returns-then-s-lt1 c = let low = c.if-s-lt1.true in sym (search holds depth 9)
+returns-then-s-lt1 c =
+    let low = c.if-s-lt1.true in
+    sym (search holds depth 9)
 
 pub returns-then-s-gt-MOST_IDS : goal.returns-then-s-gt-MOST_IDS
-returns-then-s-gt-MOST_IDS c = let high = c.if-s-gt-MOST_IDS.true in sym (search holds depth 9)
+returns-then-s-gt-MOST_IDS c =
+    let high = c.if-s-gt-MOST_IDS.true in
+    sym (search holds depth 9)
 
 pub returns-then-ledger-ledger_bytes : goal.returns-then-ledger-ledger_bytes
-returns-then-ledger-ledger_bytes c = let short = rw c.ledger_bytes.ensures at c.if-ledger-ledger_bytes.true in sym (search holds depth 9)
+returns-then-ledger-ledger_bytes c =
+    let short = rw c.ledger_bytes.ensures at c.if-ledger-ledger_bytes.true in
+    sym (search holds depth 9)
 
 pub overflow_mul-terms : goal.overflow_mul-terms
 unfolding terms_in
@@ -32,12 +38,16 @@ overflow_mul-terms c =
     omega (arith, known.days)
 
 pub returns-then-terms-s : goal.returns-then-terms-s
-returns-then-terms-s c = let late = c.if-terms-s.true in sym (search holds depth 9)
+returns-then-terms-s c =
+    let late = c.if-terms-s.true in
+    sym (search holds depth 9)
 
 pub returns : goal.returns
 unfolding terms_in
 returns c =
-    let s = c.args.s in let b = c.args.ledger.now in c.below.ensures
+    let s = c.args.s in
+    let b = c.args.ledger.now in
+    c.below.ensures
     ∙ sym (carried_decides (terms_in s.terms) s.accounts (length b) s.earliest s.carried.0
     (sym c.terms_refused.ensures ∙ c.if-terms_refused.false) (omega arith) (omega arith) (omega arith)
     (omega arith))

@@ -8,9 +8,13 @@ pub returns-then-ledger-lt-STANDING_BYTES : goal.returns-then-ledger-lt-STANDING
 returns-then-ledger-lt-STANDING_BYTES c = sym (header_short c.args.ledger.now c.if-ledger-lt-STANDING_BYTES.true)
 
 pub returns-then-number64-ne-LEDGER_FORMAT : goal.returns-then-number64-ne-LEDGER_FORMAT
-returns-then-number64-ne-LEDGER_FORMAT c = let b = c.args.ledger.now in sym (format_other b (omega arith) _ c.number64.ensures c.if-number64-ne-LEDGER_FORMAT.true)
+returns-then-number64-ne-LEDGER_FORMAT c =
+    let b = c.args.ledger.now in
+    sym
+    (format_other b (omega arith) _ c.number64.ensures c.if-number64-ne-LEDGER_FORMAT.true)
 
 pub returns : goal.returns
 returns c =
-    let b = c.args.ledger.now in sym (offset_decides b (omega arith)
+    let b = c.args.ledger.now in
+    sym (offset_decides b (omega arith)
     _ c.number64.ensures c.if-number64-ne-LEDGER_FORMAT.false _ c.number64-2.ensures)

@@ -13,7 +13,8 @@ abbrev pub invariant-loop-i : goal.invariant-loop-i
 invariant-loop-i l =
     let ids = (block_of l.block).ids in
     (l.i ≤ l.b.ids)
-    × (written_at (ledger_bytes l.i) (new_words (drop l.i ids)) l.ledger ≡ written_at ledger_header_bytes (new_words ids) l.initial.ledger)
+    × (written_at (ledger_bytes l.i) (new_words (drop l.i ids)) l.ledger
+    ≡ written_at ledger_header_bytes (new_words ids) l.initial.ledger)
     × (length l.ledger ≡ length l.initial.ledger)
 
 abbrev pub decreases-loop-i : goal.decreases-loop-i

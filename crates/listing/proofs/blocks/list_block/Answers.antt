@@ -8,7 +8,8 @@ use Rattle.listing.proofs.blocks.list_block.Goals as goal
 
 pub returns-then-number-eq0 : goal.returns-then-number-eq0
 unfolding block_listed
-returns-then-number-eq0 c = step_as _ _ _ _ _ _ (ap in_bytes (at_first _ _ _ c.if-number-eq0.true)) c.list_opening.ensures
+returns-then-number-eq0 c =
+    step_as _ _ _ _ _ _ (ap in_bytes (at_first _ _ _ c.if-number-eq0.true)) c.list_opening.ensures
 
 pub returns : goal.returns
 unfolding block_listed

@@ -16,7 +16,8 @@ use Rattle.listing.proofs.blocks.put_row_lines.Goals as goal
 
 pub loop-i-init : goal.loop-i-init
 loop-i-init c =
-    let same = ap bytes_of_lines (lines_start c.args.file.now c.args.res.now c.args.h.interval) in (
+    let same = ap bytes_of_lines (lines_start c.args.file.now c.args.res.now c.args.h.interval) in
+    (
       omega arith,
       ap (λ l. placed_at c.args.at l c.args.out.now) (sym same),
       ap (λ l. c.args.at + length l) (sym same),
@@ -29,18 +30,26 @@ row_at-row-requires c = record { tabled = c.requires.tabled; i_lt_rows = search 
 
 pub row_part-requires : goal.row_part-requires
 unfolding result_bytes
-row_part-requires c = record { i_lt_most_rows = omega (arith, c.requires.tabled.rows_few, c.loop-i.invariant.0); i_in_bounds = omega (arith, c.requires.rows_in_bounds) }
+row_part-requires c = record {
+  i_lt_most_rows = omega (arith, c.requires.tabled.rows_few, c.loop-i.invariant.0);
+  i_in_bounds = omega (arith, c.requires.rows_in_bounds);
+}
 
 pub put_row_line-to-requires : goal.put_row_line-to-requires
 unfolding result_bytes
 put_row_line-to-requires c =
-    let i = c.loop-i.i in let part = ap length c.row_part.ensures ∙ length-drop (result_bytes i) c.args.res.now in
-    record { result_row_bytes_in_bounds = omega (arith, part, c.requires.rows_in_bounds); row_room_in_bounds = omega arith }
+    let i = c.loop-i.i in
+    let part = ap length c.row_part.ensures ∙ length-drop (result_bytes i) c.args.res.now in
+    record {
+      result_row_bytes_in_bounds = omega (arith, part, c.requires.rows_in_bounds);
+      row_room_in_bounds = omega arith;
+    }
 
 pub loop-i-preserved : goal.loop-i-preserved
 unfolding row_in
 loop-i-preserved c =
-    let inv = c.loop-i.invariant in let count = row_count_lem c.requires.tabled.read in
+    let inv = c.loop-i.invariant in
+    let count = row_count_lem c.requires.tabled.read in
     let turn =
     row_turn c.args.file.now c.args.res.now c.args.h.interval c.loop-i.i
     (row_in c.row_at-row.result) c.loop-i.to
@@ -53,9 +62,15 @@ loop-i-preserved c =
 pub returns : goal.returns
 unfolding header_in
 returns c =
-    let f = c.args.file.now in let r = c.args.res.now in let count = row_count_lem c.requires.tabled.read in
+    let f = c.args.file.now in
+    let r = c.args.res.now in
+    let count = row_count_lem c.requires.tabled.read in
     let same = ap (λ h. bytes_of_lines (row_lines h.interval (rows_of f) (drop result_header_bytes r)))
     c.requires.tabled.read.says in
     let end = row_end f r c.args.h.interval c.loop-i.i _ _ c.loop-i.out _ (omega (arith, count))
     c.loop-i.invariant.1 c.loop-i.invariant.2 in
-    record { out_after = end.0 ∙ ap (λ k. placed_at c.args.at k c.args.out.now) same; value = end.1 ∙ ap (λ k. c.args.at + length k) same; upper_bound = omega arith }
+    record {
+      out_after = end.0 ∙ ap (λ k. placed_at c.args.at k c.args.out.now) same;
+      value = end.1 ∙ ap (λ k. c.args.at + length k) same;
+      upper_bound = omega arith;
+    }

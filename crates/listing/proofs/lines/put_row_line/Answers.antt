@@ -19,4 +19,8 @@ returns c =
     c.put_field-second.ensures.out_after c.put_field-second.ensures.value
     c.put_word_line.ensures.out_after c.put_word_line.ensures.value
     in
-    record { out_after = all.0 ∙ ap (λ l. placed_at c.args.at l c.args.out.now) same; value = all.1 ∙ ap (λ l. c.args.at + length l) same; upper_bound = omega arith }
+    record {
+      out_after = all.0 ∙ ap (λ l. placed_at c.args.at l c.args.out.now) same;
+      value = all.1 ∙ ap (λ l. c.args.at + length l) same;
+      upper_bound = omega arith;
+    }

@@ -10,7 +10,8 @@ use Rattle.listing.proofs.lines.put_word_line.Given as goal
 abbrev pub invariant-loop-i : goal.invariant-loop-i
 invariant-loop-i l =
     (l.i ≤ l.last)
-    × (placed_at l.to (line (words_in (l.n - l.i) (drop (8 * l.i) l.b))) l.out ≡ placed_at l.at (line (words_in l.n l.b)) l.initial.out)
+    × (placed_at l.to (line (words_in (l.n - l.i) (drop (8 * l.i) l.b))) l.out
+    ≡ placed_at l.at (line (words_in l.n l.b)) l.initial.out)
     × (l.to + length (line (words_in (l.n - l.i) (drop (8 * l.i) l.b))) ≡ l.at + length (line (words_in l.n l.b)))
     × (l.to ≤ l.at + field_room * l.i)
     × (length l.out ≡ length l.initial.out)

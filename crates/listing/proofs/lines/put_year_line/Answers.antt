@@ -20,6 +20,11 @@ returns c =
     c.put_kilowatts-third.ensures.out_after c.put_kilowatts-third.ensures.value
     c.put_cents.ensures.out_after c.put_cents.ensures.value
     in
-    let all = then_place _ _ _ _ _ _ _ _ (omega arith) c.put_text-first.ensures.out_after c.put_text-first.ensures.value
+    let all = then_place _ _ _ _ _ _ _ _
+    (omega arith) c.put_text-first.ensures.out_after c.put_text-first.ensures.value
     later.0 later.1 in
-    record { out_after = all.0 ∙ ap (λ l. placed_at c.args.at l c.args.out.now) same; value = all.1 ∙ ap (λ l. c.args.at + length l) same; upper_bound = omega arith }
+    record {
+      out_after = all.0 ∙ ap (λ l. placed_at c.args.at l c.args.out.now) same;
+      value = all.1 ∙ ap (λ l. c.args.at + length l) same;
+      upper_bound = omega arith;
+    }

@@ -16,7 +16,8 @@ pub digit-requires : goal.digit-requires
 digit-requires c = omega arith
 
 pub bounds-out-i : goal.bounds-out-i
-bounds-out-i c = omega (arith, decimal_most c.loop-rest.rest, decimal_longer c.loop-rest.rest (omega arith) (omega arith))
+bounds-out-i c =
+    omega (arith, decimal_most c.loop-rest.rest, decimal_longer c.loop-rest.rest (omega arith) (omega arith))
 
 pub loop-rest-smaller : goal.loop-rest-smaller
 loop-rest-smaller c = omega arith
@@ -24,7 +25,8 @@ loop-rest-smaller c = omega arith
 pub loop-rest-preserved : goal.loop-rest-preserved
 loop-rest-preserved c =
     let longer = decimal_longer c.loop-rest.rest (omega arith) (omega arith) in
-    let most = decimal_most c.loop-rest.rest in (
+    let most = decimal_most c.loop-rest.rest in
+    (
       digit_turn _ _ _ _ _ _ c.loop-rest.invariant.0 c.loop-rest.invariant.1 (omega arith) (omega arith) (omega arith)
           c.digit.ensures,
       omega arith,
@@ -42,4 +44,8 @@ pub shape_of-out : goal.shape_of-out
 shape_of-out c = simp length-set (omega arith)
 
 pub returns : goal.returns
-returns c = record { out_after = digit_first _ _ _ _ _ c.loop-rest.invariant.0 (omega arith) (omega arith) c.digit-2.ensures; value = omega arith; upper_bound = omega arith }
+returns c = record {
+  out_after = digit_first _ _ _ _ _ c.loop-rest.invariant.0 (omega arith) (omega arith) c.digit-2.ensures;
+  value = omega arith;
+  upper_bound = omega arith;
+}

@@ -9,7 +9,8 @@ use Rattle.listing.proofs.number.put_decimal.Given as goal
 
 abbrev pub invariant-loop-rest : goal.invariant-loop-rest
 invariant-loop-rest l =
-    (placed_at l.at (decimal l.rest) l.out ≡ placed_at l.at (decimal l.v) l.initial.out) × (l.i ≡ l.at + length (decimal l.rest)) × (l.rest ≤ l.v)
+    (placed_at l.at (decimal l.rest) l.out ≡ placed_at l.at (decimal l.v) l.initial.out)
+    × (l.i ≡ l.at + length (decimal l.rest)) × (l.rest ≤ l.v)
     × (length l.out ≡ length l.initial.out)
 
 abbrev pub decreases-loop-rest : goal.decreases-loop-rest

@@ -7,7 +7,10 @@ use Rattle.listing.specs.Npalist.{listing_steps}
 use Rattle.listing.proofs.steps.list_next.Goals as goal
 
 pub next_block-found-requires : goal.next_block-found-requires
-next_block-found-requires c = record { head_in_bounds = c.requires.head_in_bounds; block_len_bound = rw c.most_bytes.ensures.value c.requires.block_len_bound }
+next_block-found-requires c = record {
+  head_in_bounds = c.requires.head_in_bounds;
+  block_len_bound = rw c.most_bytes.ensures.value c.requires.block_len_bound;
+}
 
 pub returns-then-stops : goal.returns-then-stops
 unfolding listing_steps

@@ -14,11 +14,20 @@ use Rattle.listing.proofs.steps.put_end.Goals as goal
 pub returns-then-number-eq0 : goal.returns-then-number-eq0
 unfolding end_lines bytes_of_lines
 returns-then-number-eq0 c =
-    let same = one_line (Line.cut 0) ∙ ap bytes_of_lines (sym (at_first c.args.number (Line.cut 0 ∷ []) [] c.if-number-eq0.true)) in
-    record { out_after = c.put_cut.ensures.out_after ∙ ap (λ k. placed_at 0 k c.args.out.now) same; value = omega (arith, ap length same); upper_bound = omega arith }
+    let same = one_line (Line.cut 0)
+    ∙ ap bytes_of_lines (sym (at_first c.args.number (Line.cut 0 ∷ []) [] c.if-number-eq0.true)) in
+    record {
+      out_after = c.put_cut.ensures.out_after ∙ ap (λ k. placed_at 0 k c.args.out.now) same;
+      value = omega (arith, ap length same);
+      upper_bound = omega arith;
+    }
 
 pub returns : goal.returns
 unfolding end_lines bytes_of_lines
 returns c =
     let same = ap bytes_of_lines (sym (at_later c.args.number (Line.cut 0 ∷ []) [] c.if-number-eq0.false)) in
-    record { out_after = sym (place_none 0 _) ∙ ap (λ k. placed_at 0 k c.args.out.now) same; value = ap length same; upper_bound = omega arith }
+    record {
+      out_after = sym (place_none 0 _) ∙ ap (λ k. placed_at 0 k c.args.out.now) same;
+      value = ap length same;
+      upper_bound = omega arith;
+    }

@@ -14,7 +14,13 @@ pub to-requires : goal.to-requires
 to-requires c =
     let both = may_walk _ c.requires _ c.standing_of-s.ensures _ _ c.start.ensures.account_value c.start.ensures.accounts_value
     c.start.ensures.budget_value in
-    record { accounts_value = both.0; accounts_in_bounds = both.1.0; accounts_le_most_ids = both.1.1.0; account_le_accounts = both.1.1.1.0; ledger_bound = both.1.1.1.1 }
+    record {
+      accounts_value = both.0;
+      accounts_in_bounds = both.1.0;
+      accounts_le_most_ids = both.1.1.0;
+      account_le_accounts = both.1.1.1.0;
+      ledger_bound = both.1.1.1.1;
+    }
 
 pub returns : goal.returns
 returns c =

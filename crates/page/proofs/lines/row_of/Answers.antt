@@ -14,7 +14,11 @@ row_at-row-requires c = record { tabled = c.requires; i_lt_rows = search rules }
 
 pub returns-then-row-id : goal.returns-then-row-id
 unfolding row_in
-returns-then-row-id c = record { value = sym (c.loop-i.invariant.1 ∙ place_here _ _ c.requires.read _ c.loop-i-test.true c.row_at-row.ensures c.if-row-id.true); upper_bound = omega arith }
+returns-then-row-id c = record {
+  value = sym
+  (c.loop-i.invariant.1 ∙ place_here _ _ c.requires.read _ c.loop-i-test.true c.row_at-row.ensures c.if-row-id.true);
+  upper_bound = omega arith;
+}
 
 pub overflow_add-i : goal.overflow_add-i
 overflow_add-i c = omega arith
@@ -24,7 +28,12 @@ loop-i-smaller c = omega arith
 
 pub loop-i-preserved : goal.loop-i-preserved
 unfolding row_in
-loop-i-preserved c = (omega arith, c.loop-i.invariant.1 ∙ place_next _ _ c.requires.read _ c.loop-i-test.true c.row_at-row.ensures c.if-row-id.false)
+loop-i-preserved c =
+    (omega arith, c.loop-i.invariant.1
+    ∙ place_next _ _ c.requires.read _ c.loop-i-test.true c.row_at-row.ensures c.if-row-id.false)
 
 pub returns : goal.returns
-returns c = record { value = sym (c.loop-i.invariant.1 ∙ place_end _ _ c.requires.read _ (omega arith)); upper_bound = omega arith }
+returns c = record {
+  value = sym (c.loop-i.invariant.1 ∙ place_end _ _ c.requires.read _ (omega arith));
+  upper_bound = omega arith;
+}

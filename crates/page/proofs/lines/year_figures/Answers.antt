@@ -13,7 +13,10 @@ pub limit-requires : goal.limit-requires
 unfolding account_in
 limit-requires c =
     let most = largest_most _ c.requires c.args.page.id in
-    record { terms_value = (terms_say _ c.requires _ c.standing_of-s.ensures).1; kw_le_most_kilowatts = omega (arith, most, ap (λ a. a.largest) c.plant_account-account.ensures) }
+    record {
+      terms_value = (terms_say _ c.requires _ c.standing_of-s.ensures).1;
+      kw_le_most_kilowatts = omega (arith, most, ap (λ a. a.largest) c.plant_account-account.ensures);
+    }
 
 pub returns : goal.returns
 returns c =

@@ -10,7 +10,10 @@ use Rattle.page.proofs.steps.open_page.Goals as goal
 pub returns-then-not-taken : goal.returns-then-not-taken
 returns-then-not-taken c =
     let off = not-true _ c.if-not-taken.true in
-    record { step_taken = stopped_paged _ _ _ _ _ _ c.list_opening-taken.ensures _ off; year_ledger = λ on. never (sym off ∙ on) }
+    record {
+      step_taken = stopped_paged _ _ _ _ _ _ c.list_opening-taken.ensures _ off;
+      year_ledger = λ on. never (sym off ∙ on);
+    }
 
 pub has_account-requires : goal.has_account-requires
 has_account-requires c =

@@ -14,10 +14,16 @@ use Rattle.page.proofs.SettledLaws.{page_more}
 use Rattle.page.proofs.steps.page_next.Goals as goal
 
 pub next_block-found-requires : goal.next_block-found-requires
-next_block-found-requires c = record { head_in_bounds = c.requires.head_in_bounds; block_len_bound = rw c.most_bytes.ensures.value c.requires.block_len_bound }
+next_block-found-requires c = record {
+  head_in_bounds = c.requires.head_in_bounds;
+  block_len_bound = rw c.most_bytes.ensures.value c.requires.block_len_bound;
+}
 
 pub page_stop-end-requires : goal.page_stop-end-requires
-page_stop-end-requires c = record { ledger_value = year_holds c.requires.year_ledger; step_room_in_bounds = omega (arith, c.requires.step_room_in_bounds) }
+page_stop-end-requires c = record {
+  ledger_value = year_holds c.requires.year_ledger;
+  step_room_in_bounds = omega (arith, c.requires.step_room_in_bounds);
+}
 
 pub returns-then-stops : goal.returns-then-stops
 unfolding page_steps
@@ -27,7 +33,8 @@ returns-then-stops c =
       step_taken = stop_taken (page_steps c.args.page.id) _ _ _ _ _ _ c.most_bytes.ensures.value
           c.next_block-found.ensures
           (sym c.stops.ensures ∙ c.if-stops.true) _
-          (λ e at. ap (λ ls. ls ++ year) (stop_lines_lem _ _ e at) ∙ end_later _ _ _ e (λ z. omega (arith, c.requires.number_nonzero))) _ _ _
+          (λ e at. ap (λ ls. ls ++ year) (stop_lines_lem _ _ e at)
+          ∙ end_later _ _ _ e (λ z. omega (arith, c.requires.number_nonzero))) _ _ _
           c.page_stop-end.ensures.out_after c.page_stop-end.ensures.result_value
           (omega (arith, c.page_stop-end.ensures.upper_bound, c.page_stop-end.auto, c.requires.step_room_in_bounds));
       id_value = refl;
@@ -42,7 +49,9 @@ returns c =
       step_taken = block_taken (page_steps c.args.page.id) _ _ _ _ _ _ c.most_bytes.ensures.value
           c.next_block-found.ensures
           (sym c.stops.ensures ∙ c.if-stops.false) _ _ _ _
-          (step_as _ _ _ _ _ _ (ap in_bytes (block_later _ _ _ _ (λ z. omega (arith, c.requires.number_nonzero)))) c.page_interval.ensures.step_taken);
+          (step_as _ _ _ _ _ _
+          (ap in_bytes
+          (block_later _ _ _ _ (λ z. omega (arith, c.requires.number_nonzero)))) c.page_interval.ensures.step_taken);
       id_value = c.page_interval.ensures.id_value;
       page_fits_2 = c.page_interval.ensures.page_fits_2;
       year_ledger_2 = c.page_interval.ensures.year_ledger_2;

@@ -8,7 +8,10 @@ use Rattle.page.specs.Steps.{page_steps, page_block, page_end}
 use Rattle.page.proofs.steps.page_opening.Goals as goal
 
 pub next_block-found-requires : goal.next_block-found-requires
-next_block-found-requires c = record { head_in_bounds = c.requires.head_in_bounds; block_len_bound = rw c.most_bytes.ensures.value c.requires.block_len_bound }
+next_block-found-requires c = record {
+  head_in_bounds = c.requires.head_in_bounds;
+  block_len_bound = rw c.most_bytes.ensures.value c.requires.block_len_bound;
+}
 
 pub returns-then-stops : goal.returns-then-stops
 unfolding page_steps page_end

@@ -11,13 +11,19 @@ use Rattle.page.proofs.steps.page_row.Goals as goal
 
 pub row_part-row-requires : goal.row_part-row-requires
 unfolding result_bytes
-row_part-row-requires c = record { i_lt_most_rows = c.requires.i_lt_most_rows; i_in_bounds = omega (arith, c.requires.i_in_bounds) }
+row_part-row-requires c = record {
+  i_lt_most_rows = c.requires.i_lt_most_rows;
+  i_in_bounds = omega (arith, c.requires.i_in_bounds);
+}
 
 pub put_row_line-end-requires : goal.put_row_line-end-requires
 unfolding result_bytes
 put_row_line-end-requires c =
     let part = ap length c.row_part-row.ensures ∙ length-drop (result_bytes c.args.i) c.args.res.now in
-    record { result_row_bytes_in_bounds = omega (arith, part, c.requires.i_in_bounds); row_room_in_bounds = omega (arith, c.requires.step_room_in_bounds) }
+    record {
+      result_row_bytes_in_bounds = omega (arith, part, c.requires.i_in_bounds);
+      row_room_in_bounds = omega (arith, c.requires.step_room_in_bounds);
+    }
 
 pub returns : goal.returns
 returns c =
@@ -25,9 +31,11 @@ returns c =
     record {
       puts = c.put_row_line-end.ensures.out_after ∙ ap (λ l. placed_at 0 l c.args.out.now) line;
       ends = c.put_row_line-end.ensures.value ∙ ap (λ l. 0 + length l) line;
-      fits = omega (arith, c.put_row_line-end.ensures.upper_bound, c.put_row_line-end.auto, c.requires.step_room_in_bounds);
+      fits = omega
+      (arith, c.put_row_line-end.ensures.upper_bound, c.put_row_line-end.auto, c.requires.step_room_in_bounds);
       goes_on = refl;
       id = c.with-page.ensures.id_value;
-      shortfall = c.with-page.ensures.shortfall_value ∙ ap (λ w. c.args.page.shortfall.0 + w) c.balance_at.ensures.shortfall_value;
+      shortfall = c.with-page.ensures.shortfall_value
+      ∙ ap (λ w. c.args.page.shortfall.0 + w) c.balance_at.ensures.shortfall_value;
       bonus = c.with-page.ensures.bonus_value ∙ ap (λ w. c.args.page.bonus.0 + w) c.balance_at.ensures.bonus_value;
     }

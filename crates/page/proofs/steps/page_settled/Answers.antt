@@ -29,7 +29,7 @@ pub header_of-h-requires : goal.header_of-h-requires
 header_of-h-requires c =
     let passed : Accepted c.args.ledger.now c.args.file.now c.args.res.now
     = accepted _ _ _ (sym c.settle_file-ground.ensures.answer ∙ c.if-ground-ne0.false) in
-    (passed).passed.tabled.read.long
+    passed.passed.tabled.read.long
 
 pub row_of-i-requires : goal.row_of-i-requires
 unfolding header_in terms_in
@@ -37,7 +37,7 @@ row_of-i-requires c =
     let passed : Accepted c.args.ledger.now c.args.file.now c.args.res.now
     = accepted _ _ _ (sym c.settle_file-ground.ensures.answer ∙ c.if-ground-ne0.false) in
     let tabled : Tabled c.args.file.now c.header_of-h.result
-    = subst (Tabled _) (sym (ap header_said c.header_of-h.ensures)) (passed).passed.tabled in
+    = subst (Tabled _) (sym (ap header_said c.header_of-h.ensures)) passed.passed.tabled in
     tabled
 
 pub returns-then-h-i : goal.returns-then-h-i
@@ -46,11 +46,12 @@ returns-then-h-i c =
     let passed : Accepted c.args.ledger.now c.args.file.now c.args.res.now
     = accepted _ _ _ (sym c.settle_file-ground.ensures.answer ∙ c.if-ground-ne0.false) in
     let tabled : Tabled c.args.file.now c.header_of-h.result
-    = subst (Tabled _) (sym (ap header_said c.header_of-h.ensures)) (passed).passed.tabled in
+    = subst (Tabled _) (sym (ap header_said c.header_of-h.ensures)) passed.passed.tabled in
     record {
       step_taken = none_paged _ _ _ _ _ _ _ c.requires.res_value c.settle_file-ground.ensures.answer c.settle_file-ground.ensures.ledger_bytes
           c.settle_file-ground.ensures.result_bytes
-          c.args.page c.if-ground-ne0.false _ (omega (arith, c.if-h-i.true, c.row_of-i.ensures.value, length_tabled (tabled)));
+          c.args.page c.if-ground-ne0.false _
+          (omega (arith, c.if-h-i.true, c.row_of-i.ensures.value, length_tabled tabled));
       id_value = refl;
       page_fits_2 = page_more _ _ _ c.requires.page_fits (omega arith) (omega arith);
       year_ledger_2 = year_settled _ _ _ c.requires.year_ledger c.settle_file-ground.ensures.ledger_bytes;
@@ -62,7 +63,7 @@ page_row-requires c =
     let passed : Accepted c.args.ledger.now c.args.file.now c.args.res.now
     = accepted _ _ _ (sym c.settle_file-ground.ensures.answer ∙ c.if-ground-ne0.false) in
     let tabled : Tabled c.args.file.now c.header_of-h.result
-    = subst (Tabled _) (sym (ap header_said c.header_of-h.ensures)) (passed).passed.tabled in
+    = subst (Tabled _) (sym (ap header_said c.header_of-h.ensures)) passed.passed.tabled in
     let rows_are : c.header_of-h.result.rows ≡ (header_of c.args.file.now).row_count
     = ap (λ h. h.row_count) c.header_of-h.ensures in
     let t = tabled in
@@ -71,7 +72,13 @@ page_row-requires c =
     c.settle_file-ground.ensures.result_bytes c.row_of-i.ensures.value
     (omega (arith, length_tabled t)) in
     let few = c.requires.page_fits in
-    record { i_lt_most_rows = omega (arith, t.rows_few); i_in_bounds = omega (arith, (passed).room, length_tabled t, rows_are, c.settle_file-ground.auto); res_bound = omega (arith, words.0, few.shortfall, c.requires.number_lt_most_blocks); res_bound_2 = omega (arith, words.1, few.bonus, c.requires.number_lt_most_blocks); step_room_in_bounds = omega (arith, c.requires.step_room_in_bounds) }
+    record {
+      i_lt_most_rows = omega (arith, t.rows_few);
+      i_in_bounds = omega (arith, passed.room, length_tabled t, rows_are, c.settle_file-ground.auto);
+      res_bound = omega (arith, words.0, few.shortfall, c.requires.number_lt_most_blocks);
+      res_bound_2 = omega (arith, words.1, few.bonus, c.requires.number_lt_most_blocks);
+      step_room_in_bounds = omega (arith, c.requires.step_room_in_bounds);
+    }
 
 pub returns : goal.returns
 unfolding header_in terms_in
@@ -79,7 +86,7 @@ returns c =
     let passed : Accepted c.args.ledger.now c.args.file.now c.args.res.now
     = accepted _ _ _ (sym c.settle_file-ground.ensures.answer ∙ c.if-ground-ne0.false) in
     let tabled : Tabled c.args.file.now c.header_of-h.result
-    = subst (Tabled _) (sym (ap header_said c.header_of-h.ensures)) (passed).passed.tabled in
+    = subst (Tabled _) (sym (ap header_said c.header_of-h.ensures)) passed.passed.tabled in
     let t = tabled in
     let low : c.row_of-i.result < length (rows_of c.args.file.now) = omega (arith, length_tabled t) in
     let words =
@@ -92,6 +99,7 @@ returns c =
           c.args.page c.if-ground-ne0.false _ _ _ _ _ c.row_of-i.ensures.value low
           (ap (λ h. h.interval) c.header_of-h.ensures) paged;
       id_value = paged.id;
-      page_fits_2 = page_more _ _ _ c.requires.page_fits (omega (arith, paged.shortfall, words.0)) (omega (arith, paged.bonus, words.1));
+      page_fits_2 = page_more _ _ _ c.requires.page_fits (omega (arith, paged.shortfall, words.0))
+      (omega (arith, paged.bonus, words.1));
       year_ledger_2 = year_settled _ _ _ c.requires.year_ledger c.settle_file-ground.ensures.ledger_bytes;
     }

@@ -6,4 +6,7 @@ use Rattle.reading.proofs.block.id_at.Goals as goal
 
 pub returns : goal.returns
 unfolding block_in
-returns c = let says = c.requires.listed.read.says in c.number32.ensures.value ∙ sym (id_is c.args.block.now (block_in c.args.b) says c.args.i c.requires.i_lt_ids)
+returns c =
+    let says = c.requires.listed.read.says in
+    c.number32.ensures.value
+    ∙ sym (id_is c.args.block.now (block_in c.args.b) says c.args.i c.requires.i_lt_ids)

@@ -21,7 +21,8 @@ returns-then-b-gt-MOST_IDS c = sym (ids_many _ (block_in c.args.b) c.requires.sa
 pub returns : goal.returns
 unfolding block_in
 returns c =
-    let h = c.block_header_bytes in let left = ids_left_lem _ (block_in c.args.b) c.requires.says (omega arith) (omega arith) in
+    let h = c.block_header_bytes in
+    let left = ids_left_lem _ (block_in c.args.b) c.requires.says (omega arith) (omega arith) in
     let end = length c.args.block.now in
     c.leaves.ensures
     ∙ ap (λ first. not (lies_from first end c.args.b.ids_at (id_bytes * c.args.b.ids))) h.ensures

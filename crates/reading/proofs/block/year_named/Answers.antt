@@ -14,8 +14,16 @@ returns-then-number32-eq-YEARLESS c = sym (named_none _ (sym c.number32.ensures.
 
 pub number32-requires-2 : goal.number32-requires-2
 unfolding word32
-number32-requires-2 c = let b = c.args.block.now in let first = c.number32.ensures.value in omega (arith, header_dated (word32 b 0) (λ e. omega (arith, first, e)), c.requires)
+number32-requires-2 c =
+    let b = c.args.block.now in
+    let first = c.number32.ensures.value in
+    omega
+    (arith, header_dated (word32 b 0) (λ e. omega (arith, first, e)), c.requires)
 
 pub returns : goal.returns
 unfolding word32
-returns c = let b = c.args.block.now in let first = c.number32.ensures.value in c.number32-2.ensures.value ∙ sym (named_fifth b (λ e. omega (arith, first, e)))
+returns c =
+    let b = c.args.block.now in
+    let first = c.number32.ensures.value in
+    c.number32-2.ensures.value
+    ∙ sym (named_fifth b (λ e. omega (arith, first, e)))

@@ -9,7 +9,9 @@ use Rattle.reading.proofs.HeaderTests.{below_bound, above_bound, bound_fits, com
 use Rattle.reading.proofs.header.beyond.Goals as goal
 
 pub overflow_sub-high : goal.overflow_sub-high
-overflow_sub-high c = rw (to_z_pos w64 c.args.most (omega arith)) (record { sfits = bound_fits c.args.most (omega arith) })
+overflow_sub-high c = rw (to_z_pos w64 c.args.most (omega arith)) (record {
+  sfits = bound_fits c.args.most (omega arith);
+})
 
 pub returns-then-z-high : goal.returns-then-z-high
 returns-then-z-high c =

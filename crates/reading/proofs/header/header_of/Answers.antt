@@ -72,17 +72,23 @@ number32-requires-9 c =
 
 pub schedules_word-requires : goal.schedules_word-requires
 unfolding header_of word32
-schedules_word-requires c other = omega (arith, header_twelve (λ same. other (c.number32-format.ensures.value ∙ same)), c.requires)
+schedules_word-requires c other =
+    omega (arith, header_twelve (λ same. other (c.number32-format.ensures.value ∙ same)), c.requires)
 
 pub schedules_word-requires-2 : goal.schedules_word-requires-2
 unfolding header_of word32
-schedules_word-requires-2 c other = omega (arith, header_twelve (λ same. other (c.number32-format.ensures.value ∙ same)), c.requires)
+schedules_word-requires-2 c other =
+    omega (arith, header_twelve (λ same. other (c.number32-format.ensures.value ∙ same)), c.requires)
 
 pub returns : goal.returns
 unfolding header_in header_of word32
 returns c =
-    let imports = c.signed in let word = c.number32-5.ensures.value in let sixth = signed_field imports.result imports.ensures.value imports.ensures.result_bound word in
-    let file = c.args.file.now in let format = c.number32-format.ensures.value in let tenth = c.schedules_word.ensures ∙ ap (λ k. by_format k 0 (word32 file 10)) format in
+    let imports = c.signed in
+    let word = c.number32-5.ensures.value in
+    let sixth = signed_field imports.result imports.ensures.value imports.ensures.result_bound word in
+    let file = c.args.file.now in
+    let format = c.number32-format.ensures.value in
+    let tenth = c.schedules_word.ensures ∙ ap (λ k. by_format k 0 (word32 file 10)) format in
     let eleventh = c.schedules_word-2.ensures ∙ ap (λ k. by_format k 40 (word32 file 11)) format in
     λ x. record {
       format = format x;

@@ -18,5 +18,7 @@ returns-then-h-gt1 c = sym (region_above (header_in c.args.h) (omega arith))
 pub returns : goal.returns
 unfolding header_in
 returns c =
-    let h = c.args.h in let small = c.struct_told-1.given.1.1.1.1.1.0.1 in let imports = beyond_field most_imports h.imports small c.beyond.ensures refl in
+    let h = c.args.h in
+    let small = c.struct_told-1.given.1.1.1.1.1.0.1 in
+    let imports = beyond_field most_imports h.imports small c.beyond.ensures refl in
     sym (imports_left (header_in h) (omega arith) (omega arith) ∙ imports)

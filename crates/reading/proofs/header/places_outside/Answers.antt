@@ -4,7 +4,14 @@ use mathlib.Core.Path.{sym, ◌∙◌}
 use native.Mathlib.Omega.{arith}
 use Rattle.reading.specs.Interval.{leaves, meet}
 use Rattle.reading.specs.Values.{table_in}
-use Rattle.reading.proofs.HeaderTests.{rows_leave, points_leave, schedules_leave, points_meet, schedules_meet, last_meet}
+use Rattle.reading.proofs.HeaderTests.{
+  rows_leave,
+  points_leave,
+  schedules_leave,
+  points_meet,
+  schedules_meet,
+  last_meet,
+}
 use Rattle.reading.proofs.SpanTests.{stretch_lies, ends_below}
 use Rattle.reading.proofs.header.places_outside.Goals as goal
 
@@ -22,7 +29,9 @@ returns-then-leaves-3 c = sym (schedules_leave _ _ _ _ _ (sym c.leaves-3.ensures
 
 pub overlaps-requires : goal.overlaps-requires
 overlaps-requires c =
-    let ends : (let a = c.args in (a.rows.at + a.rows.bytes < 2 ^ 64) × (a.points.at + a.points.bytes < 2 ^ 64) × (a.schedules.at + a.schedules.bytes < 2 ^ 64))
+    let ends :
+    (let a = c.args in (a.rows.at + a.rows.bytes < 2 ^ 64) × (a.points.at + a.points.bytes < 2 ^ 64)
+    × (a.schedules.at + a.schedules.bytes < 2 ^ 64))
     = let rows = stretch_lies _ _ _ _ (sym c.leaves.ensures ∙ c.if-leaves.false) in
     let points = stretch_lies _ _ _ _ (sym c.leaves-2.ensures ∙ c.if-leaves-2.false) in
     let schedules = stretch_lies _ _ _ _ (sym c.leaves-3.ensures ∙ c.if-leaves-3.false) in
@@ -37,7 +46,9 @@ returns-then-overlaps c = sym (points_meet _ _ _ _ _ (sym c.overlaps.ensures ∙
 
 pub overlaps-requires-2 : goal.overlaps-requires-2
 overlaps-requires-2 c =
-    let ends : (let a = c.args in (a.rows.at + a.rows.bytes < 2 ^ 64) × (a.points.at + a.points.bytes < 2 ^ 64) × (a.schedules.at + a.schedules.bytes < 2 ^ 64))
+    let ends :
+    (let a = c.args in (a.rows.at + a.rows.bytes < 2 ^ 64) × (a.points.at + a.points.bytes < 2 ^ 64)
+    × (a.schedules.at + a.schedules.bytes < 2 ^ 64))
     = let rows = stretch_lies _ _ _ _ (sym c.leaves.ensures ∙ c.if-leaves.false) in
     let points = stretch_lies _ _ _ _ (sym c.leaves-2.ensures ∙ c.if-leaves-2.false) in
     let schedules = stretch_lies _ _ _ _ (sym c.leaves-3.ensures ∙ c.if-leaves-3.false) in
@@ -52,7 +63,9 @@ returns-then-overlaps-2 c = sym (schedules_meet _ _ _ _ _ (sym c.overlaps-2.ensu
 
 pub overlaps-requires-3 : goal.overlaps-requires-3
 overlaps-requires-3 c =
-    let ends : (let a = c.args in (a.rows.at + a.rows.bytes < 2 ^ 64) × (a.points.at + a.points.bytes < 2 ^ 64) × (a.schedules.at + a.schedules.bytes < 2 ^ 64))
+    let ends :
+    (let a = c.args in (a.rows.at + a.rows.bytes < 2 ^ 64) × (a.points.at + a.points.bytes < 2 ^ 64)
+    × (a.schedules.at + a.schedules.bytes < 2 ^ 64))
     = let rows = stretch_lies _ _ _ _ (sym c.leaves.ensures ∙ c.if-leaves.false) in
     let points = stretch_lies _ _ _ _ (sym c.leaves-2.ensures ∙ c.if-leaves-2.false) in
     let schedules = stretch_lies _ _ _ _ (sym c.leaves-3.ensures ∙ c.if-leaves-3.false) in

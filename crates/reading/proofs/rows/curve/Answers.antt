@@ -26,6 +26,10 @@ slice_bounds-result-start c = omega (arith, points_end c.args.h.points (schedule
 pub returns : goal.returns
 unfolding header_in schedule_in
 returns c =
-    let f = c.args.file.now in let ends = points_end c.args.h.points (schedule_in c.args.s) c.requires.s_value in
+    let f = c.args.file.now in
+    let ends = points_end c.args.h.points (schedule_in c.args.s) c.requires.s_value in
     let long = length_part f (c.args.h.points_at + point_bytes * c.args.s.first) in
-    record { result_value = curve_part_lem f (header_in c.args.h) (schedule_in c.args.s) c.requires.tabled.read.says; points_in_bounds = omega (arith, ends, long) }
+    record {
+      result_value = curve_part_lem f (header_in c.args.h) (schedule_in c.args.s) c.requires.tabled.read.says;
+      points_in_bounds = omega (arith, ends, long);
+    }

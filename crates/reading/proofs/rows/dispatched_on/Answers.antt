@@ -17,6 +17,11 @@ returns-then-row-eq0 c =
 pub schedule_at-requires : goal.schedule_at-requires
 unfolding row_in
 schedule_at-requires c =
-    let f = c.args.file.now in let w = row_in c.args.row in
+    let f = c.args.file.now in
+    let w = row_in c.args.row in
     let among = dispatched_among f w c.requires.row_value (named_something f w (omega arith)) in
-    record { tabled = c.requires.tabled; row_value = schedules_lie f w c.requires.row_value c.requires.tabled.read; k_in_bounds = among }
+    record {
+      tabled = c.requires.tabled;
+      row_value = schedules_lie f w c.requires.row_value c.requires.tabled.read;
+      k_in_bounds = among;
+    }

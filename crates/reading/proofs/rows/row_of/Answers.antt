@@ -99,7 +99,10 @@ schedules_word-requires c other = omega (arith, c.requires, row_fifteen other)
 pub returns : goal.returns
 unfolding row_in row_words word32
 returns c =
-    let metered = c.signed in let adjustment = c.signed-2 in let lmp = c.signed-3 in let fifth = signed_field metered.result metered.ensures.value metered.ensures.result_bound
+    let metered = c.signed in
+    let adjustment = c.signed-2 in
+    let lmp = c.signed-3 in
+    let fifth = signed_field metered.result metered.ensures.value metered.ensures.result_bound
     c.number32-5.ensures.value in
     let sixth = signed_field adjustment.result adjustment.ensures.value adjustment.ensures.result_bound
     c.number32-6.ensures.value in

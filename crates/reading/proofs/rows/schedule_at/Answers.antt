@@ -16,8 +16,9 @@ overflow_add-row c =
     = c.in_default.in_default-own.rest.1 in
     let within : (c.args.row.first + c.args.k < c.args.h.schedules)
     = let w = row_in c.args.row in
-    let number = length_table c.args.file.now w (other_said c.requires.tabled.read (other)) in
-    let below = c.requires.k_in_bounds in let ends = schedules_end (header_in c.args.h) w (other) c.requires.row_value (omega (arith, below, number)) in
+    let number = length_table c.args.file.now w (other_said c.requires.tabled.read other) in
+    let below = c.requires.k_in_bounds in
+    let ends = schedules_end (header_in c.args.h) w other c.requires.row_value (omega (arith, below, number)) in
     omega (arith, below, number, ends) in
     omega (arith, within)
 
@@ -28,8 +29,9 @@ table_schedule-requires c =
     = c.in_default.in_default-own.rest.1 in
     let within : (c.args.row.first + c.args.k < c.args.h.schedules)
     = let w = row_in c.args.row in
-    let number = length_table c.args.file.now w (other_said c.requires.tabled.read (other)) in
-    let below = c.requires.k_in_bounds in let ends = schedules_end (header_in c.args.h) w (other) c.requires.row_value (omega (arith, below, number)) in
+    let number = length_table c.args.file.now w (other_said c.requires.tabled.read other) in
+    let below = c.requires.k_in_bounds in
+    let ends = schedules_end (header_in c.args.h) w other c.requires.row_value (omega (arith, below, number)) in
     omega (arith, below, number, ends) in
     record { tabled = c.requires.tabled; n_lt_schedules = within }
 
@@ -44,8 +46,11 @@ unfolding header_in row_in
 returns-in_default c =
     let other : (c.args.h.format ≡ curves_format → ⊥)
     = c.in_default.in_default-own.rest.1 in
-    let f = c.args.file.now in let k = c.args.k in let w = row_in c.args.row in
-    let two = other_said c.requires.tabled.read (other) in
+    let f = c.args.file.now in
+    let k = c.args.k in
+    let w = row_in c.args.row in
+    let two = other_said c.requires.tabled.read other in
     c.table_schedule.ensures
-    ∙ ap (λ h. schedule_words (drop (h.schedules_offset + schedule_bytes * (w.first + k)) f)) c.requires.tabled.read.says
+    ∙ ap (λ h. schedule_words
+    (drop (h.schedules_offset + schedule_bytes * (w.first + k)) f)) c.requires.tabled.read.says
     ∙ sym (at_table f w two k c.requires.k_in_bounds)

@@ -20,4 +20,5 @@ returns-else-row-eq0 c f said =
 
 pub returns-in_default : goal.returns-in_default
 unfolding row_in
-returns-in_default c f said = sym (length_table f (row_in c.args.row) (λ e. c.in_default.in_default-own.rest.1 (sym said ∙ e)))
+returns-in_default c f said =
+    sym (length_table f (row_in c.args.row) (λ e. c.in_default.in_default-own.rest.1 (sym said ∙ e)))

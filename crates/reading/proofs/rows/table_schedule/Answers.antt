@@ -11,7 +11,8 @@ use Rattle.reading.proofs.rows.table_schedule.Goals as goal
 pub returns : goal.returns
 unfolding schedule_in schedule_words
 returns c =
-    let f = c.args.file.now in let at = c.args.h.schedules_at + schedule_bytes * c.args.n in
+    let f = c.args.file.now in
+    let at = c.args.h.schedules_at + schedule_bytes * c.args.n in
     let here : at ≡ at + 4 * 0 = omega arith in
     let kind = c.number32.ensures.value ∙ ap (number_at 4 f) here ∙ sym (word_part at f 0) in
     let first = c.number32-2.ensures.value ∙ sym (word_part at f 1) in

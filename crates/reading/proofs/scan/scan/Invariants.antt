@@ -31,7 +31,8 @@ invariant-loop-j l =
     (l.j ≤ l.s.points)
     × (some_row l.file (points_outside l.file)
     ≡ (curve_left l.s.points l.points l.j
-    || (any (curve_outside l.file) (drop (l.k + 1) (schedules_named l.file (row_in l.row))) || row_from l.file (points_outside l.file) (l.n + 1))))
+    || (any (curve_outside l.file) (drop (l.k + 1) (schedules_named l.file (row_in l.row))) || row_from l.file
+    (points_outside l.file) (l.n + 1))))
 
 abbrev pub decreases-loop-j : goal.decreases-loop-j
 decreases-loop-j l = l.s.points - l.j
@@ -40,7 +41,8 @@ abbrev pub invariant-loop-k : goal.invariant-loop-k
 invariant-loop-k l =
     (l.k ≤ l.count)
     × (some_row l.file (points_outside l.file)
-    ≡ (any (curve_outside l.file) (drop l.k (schedules_named l.file (row_in l.row))) || row_from l.file (points_outside l.file) (l.n + 1)))
+    ≡ (any (curve_outside l.file) (drop l.k (schedules_named l.file (row_in l.row))) || row_from l.file
+    (points_outside l.file) (l.n + 1)))
 
 abbrev pub decreases-loop-k : goal.decreases-loop-k
 decreases-loop-k l = l.count - l.k

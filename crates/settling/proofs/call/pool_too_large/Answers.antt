@@ -6,6 +6,7 @@ use Rattle.settling.proofs.call.pool_too_large.Goals as goal
 
 pub returns : goal.returns
 returns c =
-    let sums = c.charge_rows-sums in c.below.ensures
+    let sums = c.charge_rows-sums in
+    c.below.ensures
     ∙ ap (λ room. ltb room sums.result.charges.0) c.room.ensures
     ∙ pool_test c.requires.passed sums.ensures.charges_value

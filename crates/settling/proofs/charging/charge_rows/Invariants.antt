@@ -12,7 +12,8 @@ invariant-loop-i l =
     (l.walk.accounts ≡ l.initial.walk.accounts)
     × ((l.walk.account ≤ l.walk.accounts)
     × (Walks l.ledger l.file l.i l.walk.account
-    × (Charging l.ledger l.file l.initial.res l.res l.charges.0 l.bonus.0 l.i × Budget l.ledger l.file l.i l.walk.account l.walk.budget)))
+    × (Charging l.ledger l.file l.initial.res l.res l.charges.0 l.bonus.0 l.i
+    × Budget l.ledger l.file l.i l.walk.account l.walk.budget)))
 
 abbrev pub decreases-loop-i : goal.decreases-loop-i
 decreases-loop-i l = l.h.rows - l.i

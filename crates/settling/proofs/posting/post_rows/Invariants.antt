@@ -10,7 +10,8 @@ abbrev pub invariant-loop-i : goal.invariant-loop-i
 invariant-loop-i l =
     (l.walk.accounts ≡ l.initial.walk.accounts)
     × ((l.walk.account ≤ l.walk.accounts)
-    × (Pass l.initial.ledger l.file l.initial.res l.ledger l.res l.credits.0 l.i l.walk.account × Budget l.initial.ledger l.file l.i l.walk.account l.walk.budget))
+    × (Pass l.initial.ledger l.file l.initial.res l.ledger l.res l.credits.0 l.i l.walk.account
+    × Budget l.initial.ledger l.file l.i l.walk.account l.walk.budget))
 
 abbrev pub decreases-loop-i : goal.decreases-loop-i
 decreases-loop-i l = l.h.rows - l.i

@@ -16,4 +16,7 @@ number64-requires-2 c = search rules
 
 pub returns : goal.returns
 unfolding result_bytes word64
-returns c = record { shortfall_value = c.number64.ensures ∙ sym (number_at_drop 8 _ _ 32); bonus_value = c.number64-2.ensures ∙ sym (number_at_drop 8 _ _ 40) }
+returns c = record {
+  shortfall_value = c.number64.ensures ∙ sym (number_at_drop 8 _ _ 32);
+  bonus_value = c.number64-2.ensures ∙ sym (number_at_drop 8 _ _ 40);
+}

@@ -6,7 +6,8 @@ use Rattle.assessment.proofs.account.Account.added.Goals as goal
 pub returns : goal.returns
 unfolding added account_in
 returns c =
-    let a = c.args.self in λ i. record {
+    let a = c.args.self in
+    λ i. record {
       id = a.id;
       largest = a.largest.0;
       charged = c.plus.ensures i;

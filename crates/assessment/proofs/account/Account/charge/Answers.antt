@@ -8,5 +8,6 @@ use Rattle.assessment.proofs.account.Account.charge.Goals as goal
 pub returns : goal.returns
 unfolding charge account_in
 returns c =
-    let charged = c.args.self.charged.0 in let left = c.less-left.ensures ∙ ap (λ most. most - charged) c.limit.ensures in
+    let charged = c.args.self.charged.0 in
+    let left = c.less-left.ensures ∙ ap (λ most. most - charged) c.limit.ensures in
     c.lesser.ensures ∙ ap₂ min c.full_charge.ensures left

@@ -5,4 +5,11 @@ use Rattle.assessment.proofs.account.Account.raised.Goals as goal
 
 pub returns : goal.returns
 unfolding raised account_in
-returns c = let a = c.args.self in λ i. record { id = a.id; largest = c.greater.ensures i; charged = a.charged.0; credited = a.credited.0 }
+returns c =
+    let a = c.args.self in
+    λ i. record {
+  id = a.id;
+  largest = c.greater.ensures i;
+  charged = a.charged.0;
+  credited = a.credited.0;
+}

@@ -8,11 +8,13 @@ use Rattle.assessment.proofs.RatioLaws.{portion_cut}
 use Rattle.assessment.proofs.ratio.Ratio.portion.Goals as goal
 
 pub quotient-part-requires : goal.quotient-part-requires
-quotient-part-requires c = omega (arith, mul-le-mul c.requires.kw_le_most_kilowatts c.requires.numerator_le_most_numerator)
+quotient-part-requires c =
+    omega (arith, mul-le-mul c.requires.kw_le_most_kilowatts c.requires.numerator_le_most_numerator)
 
 pub returns : goal.returns
 unfolding ratio_in
 returns c =
-    let a = c.args in c.lesser.ensures
+    let a = c.args in
+    c.lesser.ensures
     ∙ ap (λ x. min x a.kw.0) c.quotient-part.ensures
     ∙ portion_cut (ratio_in a.self) a.kw.0

@@ -11,7 +11,8 @@ use Rattle.ledger.proofs.walk.Walk.to.Given as goal
 abbrev pub invariant-loop-j : goal.invariant-loop-j
 invariant-loop-j l =
     let ids = ids_in (ledger_of l.ledger) in
-    (l.j ≤ l.self.accounts) × (l.self.account + before l.id (drop l.self.account ids) ≡ l.j + before l.id (drop l.j ids))
+    (l.j ≤ l.self.accounts)
+    × (l.self.account + before l.id (drop l.self.account ids) ≡ l.j + before l.id (drop l.j ids))
     × (l.budget + comparisons l.id (drop l.self.account ids) ≡ l.self.budget + comparisons l.id (drop l.j ids))
 
 abbrev pub decreases-loop-j : goal.decreases-loop-j
