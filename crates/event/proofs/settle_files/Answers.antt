@@ -38,8 +38,7 @@ loop-at-smaller c =
 
 pub loop-at-preserved : goal.loop-at-preserved
 loop-at-preserved c =
-    let l = c.loop-at.invariant in
-    (
+    let l = c.loop-at.invariant in (
       going_on l.0 _ c.next_file-place.ensures (not-false _ c.if-not-place.false) _ _ _ c.settle_next-turn.ensures
           c.if-turn-ne0.false,
       omega (arith, c.settle_next-turn.auto, l),

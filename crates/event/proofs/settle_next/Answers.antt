@@ -44,8 +44,15 @@ overflow_add-result c =
     = accepted _ _ _ (sym c.settle_file-ground.ensures.answer ∙ c.if-ground-ne0.false) in
     let room : c.args.filled + c.result_bytes.result ≤ length c.args.res.now
     = let left = part_to_end c.args.res.now c.args.filled in
-    omega (arith, c.result_bytes.ensures, ap result_bytes rows_are, passed.room, ap length left,
-    length-drop c.args.filled c.args.res.now, c.requires) in
+    omega (
+      arith,
+      c.result_bytes.ensures,
+      ap result_bytes rows_are,
+      passed.room,
+      ap length left,
+      length-drop c.args.filled c.args.res.now,
+      c.requires,
+    ) in
     omega (arith, room)
 
 pub returns : goal.returns
@@ -58,8 +65,15 @@ returns c =
     = accepted _ _ _ (sym c.settle_file-ground.ensures.answer ∙ c.if-ground-ne0.false) in
     let room : c.args.filled + c.result_bytes.result ≤ length c.args.res.now
     = let left = part_to_end c.args.res.now c.args.filled in
-    omega (arith, c.result_bytes.ensures, ap result_bytes rows_are, passed.room, ap length left,
-    length-drop c.args.filled c.args.res.now, c.requires) in
+    omega (
+      arith,
+      c.result_bytes.ensures,
+      ap result_bytes rows_are,
+      passed.room,
+      ap length left,
+      length-drop c.args.filled c.args.res.now,
+      c.requires,
+    ) in
     turn_taken _ _ c.args.res.now c.args.filled _ _ _ c.requires c.settle_file-ground.ensures.answer
     c.settle_file-ground.ensures.ledger_bytes c.settle_file-ground.ensures.result_bytes
     (omega (arith, c.settle_file-ground.auto))

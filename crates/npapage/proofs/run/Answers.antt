@@ -8,13 +8,29 @@ run_stream-requires c =
     let first = c.put_heading-end.auto in
     record {
       ledger_value = c.requires.ledger_value;
-      head_len = omega
-      (arith, kept, c.requires.ledger_value, c.requires.head_len, c.requires.block_len,
-      c.requires.step_room_in_bounds);
-      block_len = omega
-      (arith, kept, c.requires.ledger_value, c.requires.head_len, c.requires.block_len,
-      c.requires.step_room_in_bounds);
-      step_room_in_bounds = omega
-      (arith, kept, first, c.requires.ledger_value, c.requires.head_len, c.requires.block_len,
-      c.requires.step_room_in_bounds);
+      head_len = omega (
+        arith,
+        kept,
+        c.requires.ledger_value,
+        c.requires.head_len,
+        c.requires.block_len,
+        c.requires.step_room_in_bounds,
+      );
+      block_len = omega (
+        arith,
+        kept,
+        c.requires.ledger_value,
+        c.requires.head_len,
+        c.requires.block_len,
+        c.requires.step_room_in_bounds,
+      );
+      step_room_in_bounds = omega (
+        arith,
+        kept,
+        first,
+        c.requires.ledger_value,
+        c.requires.head_len,
+        c.requires.block_len,
+        c.requires.step_room_in_bounds,
+      );
     }

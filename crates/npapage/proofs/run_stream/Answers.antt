@@ -7,13 +7,28 @@ run_intervals-requires c =
     let kept = c.opening_step-opening.auto in
     record {
       year_ledger = c.opening_step-opening.ensures.year_ledger c.if-opened.true;
-      head_len = omega
-      (arith, kept, c.requires.ledger_value, c.requires.head_len, c.requires.block_len,
-      c.requires.step_room_in_bounds);
-      block_len = omega
-      (arith, kept, c.requires.ledger_value, c.requires.head_len, c.requires.block_len,
-      c.requires.step_room_in_bounds);
-      step_room_in_bounds = omega
-      (arith, kept, c.requires.ledger_value, c.requires.head_len, c.requires.block_len,
-      c.requires.step_room_in_bounds);
+      head_len = omega (
+        arith,
+        kept,
+        c.requires.ledger_value,
+        c.requires.head_len,
+        c.requires.block_len,
+        c.requires.step_room_in_bounds,
+      );
+      block_len = omega (
+        arith,
+        kept,
+        c.requires.ledger_value,
+        c.requires.head_len,
+        c.requires.block_len,
+        c.requires.step_room_in_bounds,
+      );
+      step_room_in_bounds = omega (
+        arith,
+        kept,
+        c.requires.ledger_value,
+        c.requires.head_len,
+        c.requires.block_len,
+        c.requires.step_room_in_bounds,
+      );
     }

@@ -11,7 +11,7 @@ pub returns : goal.returns
 returns c =
     let part = c.due_part-part in
     record {
-  few = omega arith;
-  asked = part.ensures.result_len;
-  no_more = omega arith;
-}
+      few = omega arith;
+      asked = part.ensures.result_len;
+      no_more = omega arith;
+    }

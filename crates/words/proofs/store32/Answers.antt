@@ -10,10 +10,14 @@ loop-i-init c = (omega arith, (refl, refl))
 
 pub loop-i-preserved : goal.loop-i-preserved
 loop-i-preserved c =
-    let put = c.put32.ensures in
-    (omega arith,
-    (words_turn 4 _ c.loop-i.i (4 * (c.loop-i.i + 1)) _ _ _ _ c.loop-i.invariant.1.0 (omega arith) (omega arith) put
-    (omega arith), omega arith))
+    let put = c.put32.ensures in (
+      omega arith,
+      (
+        words_turn 4 _ c.loop-i.i (4 * (c.loop-i.i + 1)) _ _ _ _ c.loop-i.invariant.1.0 (omega arith) (omega arith) put
+            (omega arith),
+        omega arith,
+      ),
+    )
 
 pub returns : goal.returns
 returns c = words_all 4 _ c.loop-i.i _ _ _ c.loop-i.invariant.1.0 (omega arith)

@@ -15,9 +15,11 @@ use Rattle.assessment.proofs.account.full_charge.Goals as goal
 pub overflow_mul-product : goal.overflow_mul-product
 unfolding terms_in
 overflow_mul-product c =
-    omega (arith,
-    mul-le-mul c.requires.short_le_most_kilowatts
-    (terms_in_lem (terms_in c.args.terms) c.requires.terms_value).net_cone)
+    omega (
+      arith,
+      mul-le-mul c.requires.short_le_most_kilowatts
+          (terms_in_lem (terms_in c.args.terms) c.requires.terms_value).net_cone,
+    )
 
 pub overflow_mul-product-2 : goal.overflow_mul-product-2
 unfolding terms_in

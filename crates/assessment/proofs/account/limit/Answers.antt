@@ -26,8 +26,10 @@ pub overflow_mul-product-3 : goal.overflow_mul-product-3
 unfolding terms_in
 overflow_mul-product-3 c =
     let t = terms_in c.args.terms in
-    omega (arith,
-    limit_product_le t c.args.kw.0 (terms_in_lem t c.requires.terms_value) c.requires.kw_le_most_kilowatts)
+    omega (
+      arith,
+      limit_product_le t c.args.kw.0 (terms_in_lem t c.requires.terms_value) c.requires.kw_le_most_kilowatts,
+    )
 
 pub returns-in-2016 : goal.returns-in-2016
 unfolding limit limit_over terms_in

@@ -24,7 +24,7 @@ returns-then-on-eq0 c =
     let none = on_nothing c.requires.sound c.dispatched_on-on.ensures c.if-on-eq0.true in
     record {
       cut_value = c.available-able.ensures (row_of c.args.file.now (row_in c.args.row)).schedules
-      ∙ cut_none (row_of c.args.file.now (row_in c.args.row)) none;
+          ∙ cut_none (row_of c.args.file.now (row_in c.args.row)) none;
       economic_value = economic_none (row_of c.args.file.now (row_in c.args.row)) none;
     }
 

@@ -43,9 +43,14 @@ put_pool_line-end-requires c =
     let count = ap (λ h. h.row_count) c.header_of-h.ensures in
     record {
       result_header_bytes_in_bounds = omega (arith, a.room);
-      pool_room_in_bounds = omega
-      (arith, count, a.passed.tabled.rows_few, c.put_row_lines-rows.ensures.upper_bound, c.put_row_lines-rows.auto,
-      c.requires.block_room_in_bounds);
+      pool_room_in_bounds = omega (
+        arith,
+        count,
+        a.passed.tabled.rows_few,
+        c.put_row_lines-rows.ensures.upper_bound,
+        c.put_row_lines-rows.auto,
+        c.requires.block_room_in_bounds,
+      );
     }
 
 pub returns : goal.returns
@@ -59,9 +64,21 @@ returns c =
     interval_settled _ _ _ _ _ _ c.requires.res_value c.settle_file-ground.ensures.answer
     c.settle_file-ground.ensures.ledger_bytes _ _ _ _ _ _ _ c.if-ground-ne0.false
     c.settle_file-ground.ensures.result_bytes (ap (λ h. h.interval) says)
-    (omega (arith, few, count, c.put_row_lines-rows.ensures.out_after, c.put_row_lines-rows.ensures.value,
-    c.put_row_lines-rows.ensures.upper_bound))
+    (omega (
+      arith,
+      few,
+      count,
+      c.put_row_lines-rows.ensures.out_after,
+      c.put_row_lines-rows.ensures.value,
+      c.put_row_lines-rows.ensures.upper_bound,
+    ))
     c.put_row_lines-rows.ensures.out_after c.put_row_lines-rows.ensures.value
     c.put_pool_line-end.ensures.out_after c.put_pool_line-end.ensures.value
-    (omega (arith, few, count, c.put_row_lines-rows.ensures.out_after, c.put_row_lines-rows.ensures.value,
-    c.put_row_lines-rows.ensures.upper_bound))
+    (omega (
+      arith,
+      few,
+      count,
+      c.put_row_lines-rows.ensures.out_after,
+      c.put_row_lines-rows.ensures.value,
+      c.put_row_lines-rows.ensures.upper_bound,
+    ))

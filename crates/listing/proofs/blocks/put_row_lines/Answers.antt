@@ -16,8 +16,7 @@ use Rattle.listing.proofs.blocks.put_row_lines.Goals as goal
 
 pub loop-i-init : goal.loop-i-init
 loop-i-init c =
-    let same = ap bytes_of_lines (lines_start c.args.file.now c.args.res.now c.args.h.interval) in
-    (
+    let same = ap bytes_of_lines (lines_start c.args.file.now c.args.res.now c.args.h.interval) in (
       omega arith,
       ap (λ l. placed_at c.args.at l c.args.out.now) (sym same),
       ap (λ l. c.args.at + length l) (sym same),

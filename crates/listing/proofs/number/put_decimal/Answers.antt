@@ -25,8 +25,7 @@ loop-rest-smaller c = omega arith
 pub loop-rest-preserved : goal.loop-rest-preserved
 loop-rest-preserved c =
     let longer = decimal_longer c.loop-rest.rest (omega arith) (omega arith) in
-    let most = decimal_most c.loop-rest.rest in
-    (
+    let most = decimal_most c.loop-rest.rest in (
       digit_turn _ _ _ _ _ _ c.loop-rest.invariant.0 c.loop-rest.invariant.1 (omega arith) (omega arith) (omega arith)
           c.digit.ensures,
       omega arith,

@@ -16,7 +16,7 @@ pub returns-then-row-id : goal.returns-then-row-id
 unfolding row_in
 returns-then-row-id c = record {
   value = sym
-  (c.loop-i.invariant.1 ∙ place_here _ _ c.requires.read _ c.loop-i-test.true c.row_at-row.ensures c.if-row-id.true);
+      (c.loop-i.invariant.1 ∙ place_here _ _ c.requires.read _ c.loop-i-test.true c.row_at-row.ensures c.if-row-id.true);
   upper_bound = omega arith;
 }
 
@@ -28,9 +28,11 @@ loop-i-smaller c = omega arith
 
 pub loop-i-preserved : goal.loop-i-preserved
 unfolding row_in
-loop-i-preserved c =
-    (omega arith, c.loop-i.invariant.1
-    ∙ place_next _ _ c.requires.read _ c.loop-i-test.true c.row_at-row.ensures c.if-row-id.false)
+loop-i-preserved c = (
+  omega arith,
+  c.loop-i.invariant.1
+      ∙ place_next _ _ c.requires.read _ c.loop-i-test.true c.row_at-row.ensures c.if-row-id.false,
+)
 
 pub returns : goal.returns
 returns c = record {

@@ -32,10 +32,10 @@ returns c =
       puts = c.put_row_line-end.ensures.out_after ∙ ap (λ l. placed_at 0 l c.args.out.now) line;
       ends = c.put_row_line-end.ensures.value ∙ ap (λ l. 0 + length l) line;
       fits = omega
-      (arith, c.put_row_line-end.ensures.upper_bound, c.put_row_line-end.auto, c.requires.step_room_in_bounds);
+          (arith, c.put_row_line-end.ensures.upper_bound, c.put_row_line-end.auto, c.requires.step_room_in_bounds);
       goes_on = refl;
       id = c.with-page.ensures.id_value;
       shortfall = c.with-page.ensures.shortfall_value
-      ∙ ap (λ w. c.args.page.shortfall.0 + w) c.balance_at.ensures.shortfall_value;
+          ∙ ap (λ w. c.args.page.shortfall.0 + w) c.balance_at.ensures.shortfall_value;
       bonus = c.with-page.ensures.bonus_value ∙ ap (λ w. c.args.page.bonus.0 + w) c.balance_at.ensures.bonus_value;
     }

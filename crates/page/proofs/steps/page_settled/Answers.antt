@@ -100,6 +100,6 @@ returns c =
           (ap (λ h. h.interval) c.header_of-h.ensures) paged;
       id_value = paged.id;
       page_fits_2 = page_more _ _ _ c.requires.page_fits (omega (arith, paged.shortfall, words.0))
-      (omega (arith, paged.bonus, words.1));
+          (omega (arith, paged.bonus, words.1));
       year_ledger_2 = year_settled _ _ _ c.requires.year_ledger c.settle_file-ground.ensures.ledger_bytes;
     }

@@ -54,7 +54,7 @@ row_at-requires-in-loop-m c =
     record {
       tabled = c.requires;
       i_lt_rows =
-      (names_schedules c.args.h.format c.args.h.rows c.loop-m.m c.rows_naming-naming.ensures (omega arith)).1;
+          (names_schedules c.args.h.format c.args.h.rows c.loop-m.m c.rows_naming-naming.ensures (omega arith)).1;
     }
 
 pub schedules_outside-requires : goal.schedules_outside-requires
@@ -137,10 +137,11 @@ loop-j-init c =
     let placed = ap (λ n. curve_misplaced n (schedule_in read.result)) (sym (point_count_lem c.requires.read))
     ∙ told in
     let begins = curve_begins f c.loop-n.invariant.1 c.loop-n.invariant.2 (row_in row.result) c.loop-k.k _
-    c.loop-k.invariant.1 in
-    (omega arith,
-    begins (schedule_in read.result) read.ensures
-    (omega (arith, number)) _ c.curve-points.ensures.result_value placed)
+    c.loop-k.invariant.1 in (
+      omega arith,
+      begins (schedule_in read.result) read.ensures
+          (omega (arith, number)) _ c.curve-points.ensures.result_value placed,
+    )
 
 pub point_refused-requires : goal.point_refused-requires
 point_refused-requires c = omega (arith, c.curve-points.ensures.points_in_bounds)

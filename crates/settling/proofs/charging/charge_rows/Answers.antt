@@ -159,8 +159,16 @@ loop-i-preserved c =
     let p = c.requires.passed in
     let all = c.to-walk.ensures.accounts_value_2 in
     let near : c.on-walk.result.account ≤ c.on-walk.result.accounts
-    = omega (arith, c.on-walk.ensures.account_value, c.on-walk.ensures.accounts_value,
-    c.on-walk.ensures.budget_value, found.within, all, all_accounts, accounts_are p) in
+    = omega (
+      arith,
+      c.on-walk.ensures.account_value,
+      c.on-walk.ensures.accounts_value,
+      c.on-walk.ensures.budget_value,
+      found.within,
+      all,
+      all_accounts,
+      accounts_are p,
+    ) in
     let step = charging_turn p turn c.charge-charge.ensures inv.1.1.1.0
     c.write_row.ensures c.plus-charges.ensures c.plus-bonus.ensures in
     let l = c.loop-i in
@@ -174,9 +182,11 @@ loop-i-preserved c =
     let left =
     subst (λ n. Budget ledger file (l.i + 1) n c.on-walk.result.budget) (sym c.on-walk.ensures.account_value)
     (subst (λ n. Budget ledger file (l.i + 1) (c.to-walk.result.account + 1) n)
-    (sym c.on-walk.ensures.budget_value) spent) in
-    (c.on-walk.ensures.accounts_value ∙ all
-    ∙ inv.0, (near, (rw c.on-walk.ensures.account_value found.next, (step, left))))
+    (sym c.on-walk.ensures.budget_value) spent) in (
+      c.on-walk.ensures.accounts_value ∙ all
+          ∙ inv.0,
+      (near, (rw c.on-walk.ensures.account_value found.next, (step, left))),
+    )
 
 pub returns : goal.returns
 returns c =

@@ -27,10 +27,18 @@ loop-i-init c =
     (omega (arith, c.start-walk.ensures.budget_value, said_count))
     c.start-walk.ensures.account_value in
     let from = unknown_from c.args.ledger.now c.args.file.now 0 in
-    let first = ap (λ j. from j) (sym c.start-walk.ensures.account_value) in
-    (omega arith,
-    (omega (arith, c.start-walk.ensures.account_value, c.start-walk.ensures.accounts_value,
-    c.start-walk.ensures.budget_value), (count, (unknown_start _ _ (read_rises ledger) ∙ first, budget))))
+    let first = ap (λ j. from j) (sym c.start-walk.ensures.account_value) in (
+      omega arith,
+      (
+        omega (
+          arith,
+          c.start-walk.ensures.account_value,
+          c.start-walk.ensures.accounts_value,
+          c.start-walk.ensures.budget_value,
+        ),
+        (count, (unknown_start _ _ (read_rises ledger) ∙ first, budget)),
+      ),
+    )
 
 pub to-walk-requires : goal.to-walk-requires
 unfolding row_in
@@ -87,9 +95,10 @@ loop-i-preserved c =
     let kept =
     subst (λ n. Budget ledger file (c.loop-i.i + 1) n c.on-walk.result.budget) (sym on.account_value)
     (subst (λ n. Budget ledger file (c.loop-i.i + 1) (walk.account + 1) n) (sym on.budget_value) spent) in
-    let next = ap (λ j. unknown_from ledger file (c.loop-i.i + 1) j) (sym on.account_value) in
-    (omega arith,
-    (omega (arith, on, more), (on.accounts_value ∙ c.to-walk.ensures.accounts_value_2 ∙ inv.0, (left ∙ next, kept))))
+    let next = ap (λ j. unknown_from ledger file (c.loop-i.i + 1) j) (sym on.account_value) in (
+      omega arith,
+      (omega (arith, on, more), (on.accounts_value ∙ c.to-walk.ensures.accounts_value_2 ∙ inv.0, (left ∙ next, kept))),
+    )
 
 pub returns : goal.returns
 returns c =

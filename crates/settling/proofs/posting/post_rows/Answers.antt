@@ -260,8 +260,16 @@ loop-i-preserved c =
     enough c.write_account.ensures c.write_credit.ensures c.plus-credits.ensures in
     let all = c.to-walk.ensures.accounts_value_2 in
     let near : c.on-walk.result.account ≤ c.on-walk.result.accounts
-    = omega (arith, c.on-walk.ensures.account_value, c.on-walk.ensures.accounts_value,
-    c.on-walk.ensures.budget_value, found.within, all, all_accounts, accounts_are p) in
+    = omega (
+      arith,
+      c.on-walk.ensures.account_value,
+      c.on-walk.ensures.accounts_value,
+      c.on-walk.ensures.budget_value,
+      found.within,
+      all,
+      all_accounts,
+      accounts_are p,
+    ) in
     let l = c.loop-i in
     let ledger = c.args.ledger.now in
     let file = c.args.file.now in

@@ -8,8 +8,8 @@ unfolding raised account_in
 returns c =
     let a = c.args.self in
     λ i. record {
-  id = a.id;
-  largest = c.greater.ensures i;
-  charged = a.charged.0;
-  credited = a.credited.0;
-}
+      id = a.id;
+      largest = c.greater.ensures i;
+      charged = a.charged.0;
+      credited = a.credited.0;
+    }
