@@ -1,4 +1,4 @@
-//! Links libnpa.a from the folder NPA_ARCHIVE_DIR, or from where `rt staticlib npa` puts it.
+//! Links libnpa.a from the folder NPA_ARCHIVE_DIR, or from where `tools/build` puts it.
 
 use std::env;
 use std::path::PathBuf;

@@ -26,17 +26,17 @@ struct Sort {
 }
 
 const IMPORTS: &str = "\
-use mathlib.Core.Path.{_≡_, refl}
-use mathlib.Core.List.{[]}
-use Rattle·words.specs.Words.{bytes_of}
+use Rattle.std.specs.Prelude.{◌≡◌, []}
+use mathlib.Core.Path.{refl}
+use Rattle.words.specs.Words.{bytes_of}
 ";
 
 const CALLS: Sort = Sort {
     name: "Calls",
     imports: "\
-use Rattle·ledger.specs.Opening.{opening}
-use Rattle·settling.specs.Settling.{settling}
-use Rattle·settling.proofs.Computing.{computing}
+use Rattle.ledger.specs.Opening.{opening}
+use Rattle.settling.specs.Settling.{settling}
+use Rattle.settling.proofs.Computing.{computing}
 ",
     opened: "computing",
 };
@@ -44,9 +44,9 @@ use Rattle·settling.proofs.Computing.{computing}
 const EVENTS: Sort = Sort {
     name: "Events",
     imports: "\
-use Rattle·stream.specs.Stream.{next_block}
-use Rattle·settling.proofs.Computing.{computing}
-use Rattle·event.specs.Event.{no_file, one_file, turn, settled_files, event}
+use Rattle.stream.specs.Stream.{next_block}
+use Rattle.settling.proofs.Computing.{computing}
+use Rattle.event.specs.Event.{no_file, one_file, turn, settled_files, event}
 ",
     opened: "computing next_block no_file one_file turn settled_files event",
 };
@@ -54,11 +54,11 @@ use Rattle·event.specs.Event.{no_file, one_file, turn, settled_files, event}
 const PAGES: Sort = Sort {
     name: "Pages",
     imports: "\
-use Rattle·stream.specs.Stream.{bytes_of_next}
-use Rattle·listing.specs.Npalist.{npalist}
-use Rattle·listing.proofs.Computing.{computing}
-use Rattle·page.specs.Page.{on_page, chosen, figure_on, summed, year_of, opened, on_roster, opening_of}
-use Rattle·page.specs.Page.{lines_above, page_year, page_lines, npapage}
+use Rattle.stream.specs.Stream.{bytes_of_next}
+use Rattle.listing.specs.Npalist.{npalist}
+use Rattle.listing.proofs.Computing.{computing}
+use Rattle.page.specs.Page.{on_page, chosen, figure_on, summed, year_of, opened, on_roster, opening_of}
+use Rattle.page.specs.Page.{lines_above, page_year, page_lines, npapage}
 ",
     opened: "computing bytes_of_next on_page chosen figure_on summed year_of opened on_roster opening_of \
              lines_above page_year page_lines npapage",
@@ -80,7 +80,7 @@ fn statement(case: &Case) -> String {
             ground,
             ledger,
         } => format!(
-            "opening {} {} ≡ record {{ ground = {ground}; ledger = {} }}",
+            "opening {} {} ≡ record {{ refusal = {ground}; ledger = {} }}",
             bytes(&call.block),
             bytes(&call.ledger),
             bytes(ledger)
@@ -91,7 +91,7 @@ fn statement(case: &Case) -> String {
             ledger,
             result,
         } => format!(
-            "settling {} {} {} ≡ record {{ ground = {ground}; ledger = {}; result = {} }}",
+            "settling {} {} {} ≡ record {{ refusal = {ground}; ledger = {}; result = {} }}",
             bytes(&call.ledger),
             bytes(&call.file),
             bytes(&call.result),
@@ -99,7 +99,7 @@ fn statement(case: &Case) -> String {
             bytes(result)
         ),
         Case::Event { call, ground, left } => format!(
-            "event {} {} {} {} ≡ record {{ ground = {ground}; ledger = {}; result = {}; count = {} }}",
+            "event {} {} {} {} ≡ record {{ refusal = {ground}; ledger = {}; result = {}; count = {} }}",
             bytes(&call.ledger),
             bytes(&call.files),
             bytes(&call.result),
