@@ -30,8 +30,8 @@ returns-then-z-lt0 c = sym (negative _ (rw (plain c.args.z (omega arith)) at c.i
 pub overflow_cast-result : goal.overflow_cast-result
 overflow_cast-result c =
     let z = c.args.z in
-    let p = not_negative z (rw (plain z (omega arith)) at c.if-z-lt0.false) in
-    rw (plain z (omega arith)) (p.0, omega (arith, p.2))
+    let own = not_negative z (rw (plain z (omega arith)) at c.if-z-lt0.false) in
+    rw (plain z (omega arith)) (own.0, omega (arith, own.2))
 
 pub returns : goal.returns
 returns c =
