@@ -1,4 +1,4 @@
--- `listing::steps::most_bytes_hold` meets its contract. The number decides.
+-- `listing::steps::most_bytes` meets its contract. The number decides.
 use mathlib.Core.Path.{sym}
 use Rattle.listing.specs.Npalist.{most_bytes}
 use Rattle.listing.proofs.EndLaws.{at_first, at_later}
