@@ -7,11 +7,8 @@ use native.Mathlib.Omega.{arith}
 use lib.ListN.{length, drop}
 use lib.Seq.{drop-drop}
 use lib.IntN.{ℤ}
-use lib.Signed.{le_z, lt_z, mag}
-use mir.Syntax.{w64}
-use mir.Val.{to_z, of_z}
+use lib.Signed.{le_z, lt_z}
 use Rattle.words.specs.Words.{entries}
-use Rattle.words.proofs.Ints.{plain}
 use Rattle.reading.specs.Interval.{point_bytes, Point, Row, point_of, point_at, points_in}
 use Rattle.reading.specs.Values.{point_in}
 use Rattle.reading.specs.declared.rows.Point.{Point as PointValue}
@@ -26,28 +23,7 @@ use Rattle.assessment.specs.Assessment.{
   scheduled_by,
   first_kw,
 }
-
--- the price that a value's field holds in bits is that of its point
-pub price_read : (v : PointValue) {p : Point} → point_in v ≡ p → mag v.price < 2147483648
-    → to_z w64 (of_z w64 v.price) ≡ p.price
-unfolding point_in
-price_read v is small = plain v.price (omega arith) ∙ ap (λ p. p.price) is
-
--- and so are its kW
-pub kw_read : (v : PointValue) {p : Point} → point_in v ≡ p → v.kw ≡ p.kw
-unfolding point_in
-kw_read v is = ap (λ p. p.kw) is
-
--- the last r of n points
-abbrev pub last_points : ℕ → ℕ → List ℕ → List Point
-last_points r n b = points_in r (drop (point_bytes * (n - r)) b)
-
--- how many of n points are left from the last one reached on: it is reached, and the next one is not
-abbrev pub Left : ℤ → ℕ → List ℕ → ℕ → Type 0
-Left lmp n b r =
-    (r ≤ n)
-    × ((from_last_reached lmp (points_in n b) ≡ last_points r n b)
-    × ((0 < r → le_z (point_at b (n - r)).price lmp ≡ true) × (1 < r → le_z (point_at b (n - r + 1)).price lmp ≡ false)))
+use Rattle.assessment.specs.Values.{LastReached}
 
 -- where no point is reached, the first is not
 none_first : (lmp : ℤ) (p : Point) (ps : List Point) → from_last_reached lmp (p ∷ ps) ≡ [] → le_z p.price lmp ≡ false
@@ -70,10 +46,13 @@ module _ (lmp : ℤ) (n : ℕ) (b : List ℕ) where
   unfolding from_last_reached
   none_behind = rw (points_end n b n (omega arith))
 
-  -- where none is reached after point j, nor is point j, none is from it on
-  pub none_from : (i j : ℕ) → i ≡ j + 1 → i ≤ n → NoneFrom i → le_z (point_at b j).price lmp ≡ false → NoneFrom j
-  unfolding from_last_reached or_else
-  none_from i j after h none e = rw (points_turn n b j (omega arith), ← after, none, e)
+  -- where none is reached after point j, which is read, nor is that point, none is from it on
+  pub none_from : (i j : ℕ) (v : PointValue) → i ≡ j + 1 → i ≤ n → NoneFrom i
+      → point_in v ≡ point_at b j → le_z v.price lmp ≡ false → NoneFrom j
+  unfolding from_last_reached or_else point_in
+  none_from i j v after h none is e =
+      let e = rw (ap (λ p. p.price) is) at e in
+      rw (points_turn n b j (omega arith), ← after, none, e)
 
   -- where none is reached from point i on, point i is not
   none_at : (i : ℕ) → i < n → NoneFrom i → le_z (point_at b i).price lmp ≡ false
@@ -90,25 +69,25 @@ module _ (lmp : ℤ) (n : ℕ) (b : List ℕ) where
       let next : j + 1 ≡ suc j = omega arith in
       found_whole j p ps (omega arith) (rw (points_turn n b j (omega arith), next, e))
 
-  -- where point j is reached and none after it, n - j points are left
-  pub left_from : (i j : ℕ) → i ≡ j + 1 → i ≤ n → NoneFrom i → le_z (point_at b j).price lmp ≡ true
-      → Left lmp n b (n - j)
-  unfolding from_last_reached or_else
-  left_from i j after h none e =
-      let back : n - (n - j) ≡ j = omega arith in
+  -- where point j is reached and none after it, it is the last one reached
+  pub reached_last : (i j : ℕ) (v : PointValue) → i ≡ j + 1 → i ≤ n → NoneFrom i
+      → point_in v ≡ point_at b j → le_z v.price lmp ≡ true → LastReached lmp n b j
+  unfolding from_last_reached or_else point_in
+  reached_last i j v after h none is e =
+      let e = rw (ap (λ p. p.price) is) at e in
       let here = points_turn n b j (omega arith) in
       let found = found_whole j (point_at b j) (points_left n b (j + 1)) (omega arith) (rw (here, ← after, none, e)) in
       let last : points_left n b j ≡ points_in (n - j) (drop (point_bytes * j) b) = unfold points_left points_in in refl in
-      let is = found ∙ sym here ∙ last in
-      rw back (omega arith, (is, (λ some. e, λ more. rw (← after) (none_at i (omega arith) none))))
+      record {
+        among = omega arith;
+        rest = found ∙ sym here ∙ last;
+        reached = e;
+        next_not_reached = λ more. rw (← after) (none_at i (omega arith) none);
+      }
 
-  -- where none is reached from the first on, none are left
-  pub left_none : (i : ℕ) → i ≡ 0 → NoneFrom i → Left lmp n b 0
-  unfolding points_in entries
-  left_none i z none =
-      let all = points_start n b ∙ ap (points_left n b) (sym z) in
-      let is = ap (from_last_reached lmp) all ∙ none in
-      (omega arith, (is, (λ some. absurd (omega arith), λ more. absurd (omega arith))))
+  -- where none is reached from the first on, none is in the whole curve
+  pub reached_none : (i : ℕ) → i ≡ 0 → NoneFrom i → from_last_reached lmp (points_in n b) ≡ []
+  reached_none i z none = ap (from_last_reached lmp) (points_start n b ∙ ap (points_left n b) (sym z)) ∙ none
 
 -- the points from k on
 points_cons : (m k : ℕ) (b : List ℕ)
@@ -116,47 +95,38 @@ points_cons : (m k : ℕ) (b : List ℕ)
 unfolding points_in point_at
 points_cons m k b = table_cons point_bytes point_of m b k
 
--- what is found, by how many points are left
-module _ (lmp : ℤ) (n : ℕ) (b : List ℕ) (r : ℕ) (left : Left lmp n b r) where
-  -- of none left, none is found
-  found_none : r ≡ 0 → from_last_reached lmp (points_in n b) ≡ []
-  unfolding points_in entries
-  found_none z = left.1.0 ∙ ap (λ k. last_points k n b) z
+-- what the curve says, by the last point reached
+module _ {lmp : ℤ} {n : ℕ} {b : List ℕ} {i : ℕ} (last : LastReached lmp n b i) where
+  -- what is found begins with that point
+  found_from : (m : ℕ) → n - i ≡ suc m
+      → from_last_reached lmp (points_in n b) ≡ point_at b i ∷ points_in m (drop (point_bytes * (i + 1)) b)
+  found_from m e = last.rest ∙ ap (λ k. points_in k (drop (point_bytes * i) b)) e ∙ points_cons m i b
 
-  -- of some left, the first is the last one reached
-  found_some : (m : ℕ) → r ≡ suc m
-      → from_last_reached lmp (points_in n b) ≡ point_at b (n - r) ∷ points_in m (drop (point_bytes * (n - r + 1)) b)
-  found_some m e = left.1.0 ∙ ap (λ k. points_in k (drop (point_bytes * (n - r)) b)) e ∙ points_cons m (n - r) b
+  -- if it is the final one, the curve says its kW
+  pub along_last : n ≤ i + 1 → (v : PointValue) → point_in v ≡ point_at b i
+      → v.kw ≡ along_curve lmp (from_last_reached lmp (points_in n b))
+  unfolding along_curve points_in entries point_in
+  along_last final v is =
+      let one : n - i ≡ 1 = omega (arith, last.among) in
+      ap (λ p. p.kw) is ∙ ap (along_curve lmp) (sym (found_from 0 one))
 
-  -- with none left, the curve says 0
-  pub along_none : r ≡ 0 → 0 ≡ along_curve lmp (from_last_reached lmp (points_in n b))
+  -- else it and the next one decide
+  pub along_next : i + 1 < n → (v w : PointValue) → point_in v ≡ point_at b i → point_in w ≡ point_at b (i + 1)
+      → along_curve lmp (point_in v ∷ point_in w ∷ []) ≡ along_curve lmp (from_last_reached lmp (points_in n b))
   unfolding along_curve
-  along_none z = rw (found_none z)
+  along_next more v w is next_is =
+      let two : n - i ≡ suc (suc (n - i - 2)) = omega arith in
+      let next = points_cons (n - i - 2) (i + 1) b in
+      let found = found_from (suc (n - i - 2)) two ∙ ap (λ ps. point_at b i ∷ ps) next in
+      rw (is, next_is) (ap (along_curve lmp) (sym found))
 
-  -- with one point left, which is the final one, its kW
-  pub along_last : r ≡ 1 → (point_at b (n - r)).kw ≡ along_curve lmp (from_last_reached lmp (points_in n b))
-  unfolding along_curve points_in entries
-  along_last e = ap (along_curve lmp) (sym (found_some 0 e))
-
-  -- with more left, the last point reached and the next one decide
-  pub along_next : 1 < r
-      → along_curve lmp (point_at b (n - r) ∷ point_at b (n - r + 1) ∷ [])
-      ≡ along_curve lmp (from_last_reached lmp (points_in n b))
-  unfolding along_curve
-  along_next h =
-      let more : r ≡ suc (suc (r - 2)) = omega arith in
-      let next = points_cons (r - 2) (n - r + 1) b in
-      ap (along_curve lmp) (sym (found_some (suc (r - 2)) more ∙ ap (λ ps. point_at b (n - r) ∷ ps) next))
-
-  -- with none left, there is no kW of a point reached
-  pub kw_none : r ≡ 0 → 0 ≡ first_kw (from_last_reached lmp (points_in n b))
-  unfolding first_kw
-  kw_none z = ap first_kw (sym (found_none z))
-
-  -- with some left, it is the kW of the first of them
-  pub kw_some : 0 < r → (point_at b (n - r)).kw ≡ first_kw (from_last_reached lmp (points_in n b))
-  unfolding first_kw
-  kw_some h = let some : r ≡ suc (r - 1) = omega arith in ap first_kw (sym (found_some (r - 1) some))
+  -- its kW are those of the first point found
+  pub first_reached : (v : PointValue) → point_in v ≡ point_at b i
+      → v.kw ≡ first_kw (from_last_reached lmp (points_in n b))
+  unfolding first_kw point_in
+  first_reached v is =
+      let some : n - i ≡ suc (n - i - 1) = omega (arith, last.among) in
+      ap (λ p. p.kw) is ∙ ap first_kw (sym (found_from (n - i - 1) some))
 
 -- the price of the last of m + 1 points
 last_price_lem : (m : ℕ) (b : List ℕ) → last_price (point_of b) (points_in m (drop point_bytes b)) ≡ (point_at b m).price
@@ -177,18 +147,22 @@ scheduled_some zero b r h = absurd (omega arith)
 scheduled_some (suc m) b r h = let before : suc m - 1 ≡ m = omega arith in rw (before, ← last_price_lem m b)
 
 -- the LMP is below the first price, above the last, or neither
-module _ (n : ℕ) (b : List ℕ) (r : Row) (some : 0 < n) where
+module _ (n : ℕ) (b : List ℕ) (r : Row) (some : 0 < n) (first : PointValue) (is_first : point_in first ≡ point_at b 0) where
   -- with an LMP below the first price, scheduled is the minimum if online, else 0
-  pub scheduled_below : lt_z r.lmp (point_at b 0).price ≡ true → minimum_online r ≡ scheduled_by (points_in n b) r
-  scheduled_below e = rw (scheduled_some n b r some, e)
+  pub scheduled_below : lt_z r.lmp first.price ≡ true → minimum_online r ≡ scheduled_by (points_in n b) r
+  unfolding point_in
+  scheduled_below e = rw (scheduled_some n b r some, ← is_first, e)
 
-  -- with an LMP not below the first price and above the last, scheduled is the emergency maximum
-  pub scheduled_above : lt_z r.lmp (point_at b 0).price ≡ false → lt_z (point_at b (n - 1)).price r.lmp ≡ true
-      → r.maximum ≡ scheduled_by (points_in n b) r
-  scheduled_above e f = rw (scheduled_some n b r some, e, f)
+  module _ (last : PointValue) (is_last : point_in last ≡ point_at b (n - 1)) (reached : lt_z r.lmp first.price ≡ false) where
+    -- with an LMP not below the first price and above the last, scheduled is the emergency maximum
+    pub scheduled_above : lt_z last.price r.lmp ≡ true → r.maximum ≡ scheduled_by (points_in n b) r
+    unfolding point_in
+    scheduled_above e = rw (scheduled_some n b r some, ← is_first, reached, ← is_last, e)
 
-  -- with an LMP in between: along the curve, raised to the minimum if online, cut to the maximum
-  pub scheduled_along : lt_z r.lmp (point_at b 0).price ≡ false → lt_z (point_at b (n - 1)).price r.lmp ≡ false
-      → (kw least : ℕ) → kw ≡ along_curve r.lmp (from_last_reached r.lmp (points_in n b)) → least ≡ minimum_online r
-      → min (max kw least) r.maximum ≡ scheduled_by (points_in n b) r
-  scheduled_along e f kw least is_kw is_least = rw (scheduled_some n b r some, e, f, is_kw, is_least)
+    -- with an LMP in between: along the curve, raised to the minimum if online, cut to the maximum
+    pub scheduled_along : lt_z last.price r.lmp ≡ false
+        → (kw least : ℕ) → kw ≡ along_curve r.lmp (from_last_reached r.lmp (points_in n b)) → least ≡ minimum_online r
+        → min (max kw least) r.maximum ≡ scheduled_by (points_in n b) r
+    unfolding point_in
+    scheduled_along e kw least is_kw is_least =
+        rw (scheduled_some n b r some, ← is_first, reached, ← is_last, e, is_kw, is_least)

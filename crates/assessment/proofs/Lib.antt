@@ -1,13 +1,12 @@
 pub mod Computing
+pub mod Opened
 pub mod Figures
 pub mod Promises
 pub mod Limits
+pub mod ValueBounds
 pub mod Shares
 pub mod ChargeLaws
-pub mod KindLaws
-pub mod RatioLaws
 pub mod RuleLaws
-pub mod CurveNumbers
 pub mod CurveLaws
 pub mod ScheduleLaws
 pub mod SumLaws

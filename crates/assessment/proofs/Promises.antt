@@ -1,5 +1,5 @@
 -- What the assessment of one row promises: shortfall or bonus, never both, and bounds of its figures.
-use Prim.Native.Nat.{ℕ, suc, ◌+◌, ◌-◌, ◌*◌, ◌/◌, ◌≤◌, min, max}
+use Prim.Native.Nat.{ℕ, suc, ◌+◌, ◌-◌, ◌*◌, ◌≤◌, min, max}
 use mathlib.Core.Path.{◌≡◌, refl}
 use mathlib.Core.Logic.{◌⊎◌, inl, inr, ⊎_elim}
 use mathlib.Core.List.{List, [], ◌∷◌, Memᴰ}
@@ -8,58 +8,19 @@ use native.Mathlib.Decide.{dec_le}
 use native.Mathlib.Omega.{arith}
 use lib.ListN.{length}
 use lib.IntN.{ℤ, pos, negsuc, nat_abs, ◌+ℤ◌, sub_ℕ}
-use lib.Dec.{ltb, eqb}
+use lib.Dec.{ltb}
 use Rattle.words.proofs.Lists.{sum_most}
-use Rattle.reading.specs.Interval.{most_kilowatts, most_imports, most_rows, Header, Point, Row, Kind, kind_of}
+use Rattle.reading.specs.Interval.{most_kilowatts, most_imports, most_rows, Header, Point, Row}
 use Rattle.reading.proofs.Bounds.{HeaderIn, RowIn}
-use Rattle.assessment.specs.Assessment.{
-  or_zero,
-  actual,
-  scheduled_by,
-  dispatched_curve,
-  scheduled,
-  available,
-  bonus_cut_by,
-  bonus_cut,
-  considered,
-  if_considered,
-  Ratio,
-  portion,
-  expected_as,
-  expected,
-  bonus_actual_as,
-  bonus,
-  numerator_share_as,
-  numerator_share,
-  import_share,
-  numerator,
-  denominator_share_as,
-  denominator_share,
-  denominator,
-  whole_ratio,
-  printed_ratio,
-  outage_as,
-  outage,
-  economic_rule,
-  economic_as,
-  economic,
-  shortfall,
-  RowFigures,
-  row_figures,
-}
-use Rattle.assessment.specs.Values.{most_actual, most_numerator}
+use Rattle.assessment.specs.Assessment.{most_actual, most_numerator, or_zero, actual, scheduled_by, dispatched_curve, scheduled, available, bonus_cut_by, bonus_cut, if_considered, Ratio, portion, expected, bonus, numerator_share, import_share, numerator, denominator_share, denominator, whole_ratio, printed_ratio, outage, economic_rule, economic, shortfall, RowFigures, row_figures}
 use Rattle.assessment.specs.Claims.{economic_by_cut, SameEconomic}
-use Rattle.assessment.proofs.KindLaws.{each_kind_lem}
+use Rattle.assessment.proofs.Opened.{by_kind}
 use Rattle.assessment.proofs.ScheduleLaws.{economic_one}
 
 -- a figure that is given only if its row is considered is no larger
 pub if_le : (region_wide : ℕ) (r : Row) (x : ℕ) → if_considered region_wide r x ≤ x
 unfolding if_considered
-if_le region_wide r x = by (considered region_wide r)
-  where
-    by : (t : Bool) → cond t x 0 ≤ x
-    by true = omega arith
-    by false = omega arith
+if_le region_wide r x = grind arith
 
 -- and 0 where the figure is
 pub if_zero : (region_wide : ℕ) (r : Row) (x : ℕ) → x ≡ 0 → if_considered region_wide r x ≡ 0
@@ -68,11 +29,7 @@ if_zero region_wide r x e = omega (arith, if_le region_wide r x)
 -- the part of a whole that a ratio gives is at most the whole
 pub portion_le : (q : Ratio) (whole : ℕ) → portion q whole ≤ whole
 unfolding portion
-portion_le q whole = by (eqb q.denominator 0)
-  where
-    by : (t : Bool) → cond t 0 (min (whole * q.numerator / q.denominator) whole) ≤ whole
-    by true = omega arith
-    by false = omega arith
+portion_le q whole = grind arith
 
 -- the printed ratio is at most a million millionths
 pub printed_le : (q : Ratio) → printed_ratio q ≤ whole_ratio
@@ -81,23 +38,13 @@ printed_le q = portion_le q whole_ratio
 
 -- no more is expected of a row than its committed kW
 pub expected_le : (q : Ratio) (r : Row) → expected q r ≤ r.committed
-unfolding expected expected_as
-expected_le q r =
-    each_kind_lem (λ k. expected_as k q r ≤ r.committed)
-    (portion_le q r.committed) (omega arith) (omega arith) (omega arith) (omega arith) (omega arith) (omega arith)
-    (kind_of r.kind)
-
--- the kW that a bonus is taken from are at most the actual
-bonus_actual_le : (k : Kind) (r : Row) → bonus_actual_as k r ≤ actual r
-unfolding bonus_actual_as
-bonus_actual_le k r =
-    each_kind_lem (λ k. bonus_actual_as k r ≤ actual r)
-    (omega arith) (omega arith) (omega arith) (omega arith) (omega arith) (omega arith) (omega arith) k
+unfolding by_kind
+expected_le q r = grind (arith, portion_le)
 
 -- a bonus is at most what the actual has above the expected kW
 bonus_le : (r : Row) (e : ℕ) → bonus r e ≤ actual r - e
-unfolding bonus
-bonus_le r e = omega (arith, bonus_actual_le (kind_of r.kind) r)
+unfolding by_kind
+bonus_le r e = grind arith
 
 -- a shortfall is at most what the expected kW have above the actual
 shortfall_le : (r : Row) (e : ℕ) → shortfall r e ≤ e - actual r
@@ -106,17 +53,13 @@ shortfall_le r e = omega arith
 
 -- an outage is at most the planned kW
 outage_le : (r : Row) → outage r ≤ r.planned
-unfolding outage outage_as
-outage_le r =
-    each_kind_lem (λ k. outage_as k r ≤ r.planned)
-    (omega arith) (omega arith) (omega arith) (omega arith) (omega arith) (omega arith) (omega arith) (kind_of r.kind)
+unfolding by_kind
+outage_le r = grind arith
 
 -- the economic kW are at most the expected kW
 economic_le : (r : Row) (e : ℕ) → economic r e ≤ e
-unfolding economic economic_as economic_rule
-economic_le r e =
-    each_kind_lem (λ k. economic_as k r e ≤ e)
-    (omega arith) (omega arith) (omega arith) (omega arith) (omega arith) (omega arith) (omega arith) (kind_of r.kind)
+unfolding by_kind economic_rule
+economic_le r e = grind arith
 
 -- with one schedule both are its scheduled kW; without points neither leaves the economic rule anything,
 -- as no more is expected than the committed kW
@@ -140,13 +83,13 @@ orZero_subℕ m n = by (ltb m n)
     by false = omega arith
 
 -- a signed number, or 0 if it is negative, is at most its magnitude
-or_zero_le : (z : ℤ) → or_zero z ≤ nat_abs z
+pub or_zero_le : (z : ℤ) → or_zero z ≤ nat_abs z
 unfolding or_zero
 or_zero_le (pos n) = omega arith
 or_zero_le (negsuc n) = omega arith
 
 -- the sum of two signed numbers, or 0 if it is negative, is at most both magnitudes
-or_zero_sum : (x y : ℤ) → or_zero (x +ℤ y) ≤ nat_abs x + nat_abs y
+pub or_zero_sum : (x y : ℤ) → or_zero (x +ℤ y) ≤ nat_abs x + nat_abs y
 unfolding or_zero
 or_zero_sum (pos m) (pos n) = omega arith
 or_zero_sum (pos m) (negsuc n) = omega (arith, orZero_subℕ m (suc n))
@@ -197,29 +140,15 @@ figures_in_lem region_wide q r i =
       bonus = omega (arith, if_le region_wide r (bonus r e), bonus_le r e, actual_le r i);
     }
 
--- a row of a kind adds at most its actual to the numerator
-share_le : (k : Kind) (r : Row) → numerator_share_as k r ≤ actual r
-unfolding numerator_share_as
-share_le k r =
-    let reduced : bonus r r.committed ≤ actual r = omega (arith, bonus_le r r.committed) in
-    each_kind_lem (λ k. numerator_share_as k r ≤ actual r)
-    (omega arith) reduced (omega arith) reduced (omega arith) (omega arith) (omega arith) k
-
 -- a row that ground 13 does not refuse adds at most twice the most kW to the numerator
 pub numerator_share_le : (region_wide : ℕ) (r : Row) → RowIn r → numerator_share region_wide r ≤ most_actual
-unfolding numerator_share
-numerator_share_le region_wide r i =
-    let k = kind_of r.kind in
-    omega (arith, if_le region_wide r (numerator_share_as k r), share_le k r, actual_le r i)
+unfolding by_kind
+numerator_share_le region_wide r i = grind (arith, actual_le r i)
 
 -- the net imports of a header that ground 9 does not refuse add at most the most imports
 pub import_share_le : (h : Header) → HeaderIn h → import_share h ≤ most_imports
 unfolding import_share
-import_share_le h i = by (eqb h.region_wide 1)
-  where
-    by : (t : Bool) → cond t (or_zero h.imports) 0 ≤ most_imports
-    by true = omega (arith, or_zero_le h.imports, i.imports)
-    by false = omega arith
+import_share_le h i = grind (arith, or_zero_le, i.imports)
 
 -- the numerator of a file that grounds 9, 11 and 13 do not refuse
 pub numerator_le : (h : Header) (rs : List Row) → HeaderIn h → length rs ≤ most_rows
@@ -233,11 +162,8 @@ numerator_le h rs i few rows =
 
 -- a row that ground 13 does not refuse adds at most the most kW to the denominator
 pub denominator_share_le : (r : Row) → RowIn r → denominator_share r ≤ most_kilowatts
-unfolding denominator_share denominator_share_as
-denominator_share_le r i =
-    each_kind_lem (λ k. denominator_share_as k r ≤ most_kilowatts)
-    i.committed (omega arith) (omega arith) (omega arith) (omega arith) (omega arith) (omega arith)
-    (kind_of r.kind)
+unfolding by_kind
+denominator_share_le r i = grind (arith, i.committed)
 
 -- the denominator is at most the most kW for each of the most rows
 pub denominator_le : (rs : List Row) → length rs ≤ most_rows → ((r : Row) → Memᴰ r rs → RowIn r)

@@ -2,30 +2,14 @@
 use Prim.Native.Nat.{ℕ, zero, suc, ◌+◌, ◌≤◌, ◌<◌, max}
 use mathlib.Core.Path.{◌≡◌, refl, sym, ap, ap₂, subst, ◌∙◌}
 use mathlib.Core.List.{List, [], ◌∷◌, map}
-use mathlib.Core.Bool.{Bool, true, false, cond, not}
+use mathlib.Core.Bool.{true, false}
 use native.Mathlib.Omega.{arith}
-use borrow.Author.Tests.{ne_eqb}
 use lib.ListN.{length, take, drop}
 use lib.Seq.{drop-nil}
-use lib.Dec.{eqb}
-use Rattle.reading.specs.Interval.{
-  market,
-  price_based,
-  Point,
-  RowWords,
-  ScheduleWords,
-  Schedule,
-  Row,
-  schedules_named,
-  schedule_at,
-  curve_part,
-  points_in,
-  curve_of,
-  schedule_of,
-  row_with,
-  row_of,
-}
-use Rattle.reading.specs.Values.{Sound, SoundCurve}
+use Rattle.reading.specs.Interval.{Point, RowWords, ScheduleWords, Schedule, Row, schedules_named, schedule_at, curve_part, points_in, curve_of, schedule_of, row_with, row_of}
+use Rattle.reading.specs.Values.{row_in, schedule_in, Sound, SoundCurve}
+use Rattle.reading.specs.declared.rows.Row.{Row as RowValue}
+use Rattle.reading.specs.declared.rows.Schedule.{Schedule as ScheduleValue}
 use Rattle.reading.proofs.SoundRows.{
   schedule_sound,
   schedules_of,
@@ -56,11 +40,7 @@ use Rattle.assessment.specs.Assessment.{
 -- a schedule counts at most its scheduled kW
 counted_le : (on : ℕ) (r : Row) (s : Schedule) → counted_for on r s ≤ scheduled_by s.curve r
 unfolding counted_for
-counted_le on r s = by (looks_at on s.kind)
-  where
-    by : (t : Bool) → cond t (scheduled_by s.curve r) 0 ≤ scheduled_by s.curve r
-    by true = omega arith
-    by false = omega arith
+counted_le on r s = grind arith
 
 -- the rules, by the schedule that a row was dispatched on
 module _ (r : Row) where
@@ -127,23 +107,6 @@ module _ (r : Row) where
       by [] e few = on_none (ap (λ ss. take 1 (drop r.dispatched ss)) e ∙ ap (take 1) (drop-nil r.dispatched))
       by (s ∷ []) e few = placed s r.dispatched e refl
       by (s ∷ t ∷ ss) e few = absurd (omega arith)
-
--- the kind of the schedule dispatched on, and what it says of another
-module _ (on other : ℕ) where
-  -- on market the economic rule looks at any
-  pub looks_market : on ≡ market → true ≡ looks_at on other
-  unfolding looks_at
-  looks_market e = rw e
-
-  -- on price-based PLS at any but market ones
-  pub looks_price_based : on ≡ price_based → not (eqb other market) ≡ looks_at on other
-  unfolding looks_at
-  looks_price_based e = rw e
-
-  -- on any other kind at none
-  pub looks_none : (on ≡ market → ⊥) → (on ≡ price_based → ⊥) → false ≡ looks_at on other
-  unfolding looks_at
-  looks_none a b = rw (ne_eqb on market a, ne_eqb on price_based b)
 
 -- what a schedule counts, by whether the economic rule looks at it
 module _ (on : ℕ) (r : Row) (s : Schedule) where
@@ -250,3 +213,36 @@ module _ (f : List ℕ) (w : RowWords) (among : w.dispatched < length (schedules
       let same = ap (λ k. schedule_of f (schedule_at f w k) ∷ []) e in
       let own = scheduled_on (row_of f w) s (on_read ∙ sym same) in
       record { rest = omega (arith, h.rest, h.own, next, own, counted_le on (row_of f w) s); own = h.own }
+
+-- of a sound row the schedule that it was dispatched on, as the code holds both; it has points
+module _ {f : List ℕ} (row : RowValue) (on : ScheduleValue) (s : Sound f (row_in row))
+    (read : schedule_in on ≡ schedule_at f (row_in row) row.dispatched) (some : on.points ≡ 0 → ⊥) where
+  -- it is among the row's schedules
+  pub dispatched_among : row.dispatched < length (schedules_named f (row_in row))
+  unfolding row_in schedule_in
+  dispatched_among = on_something s read some
+
+  -- its points are in order
+  pub dispatched_sound : SoundCurve f (schedule_in on)
+  unfolding row_in
+  dispatched_sound = read_sound s dispatched_among read
+
+  -- and they are the curve that the row was dispatched on
+  pub dispatched_points : {c : List ℕ} → c ≡ curve_part f (schedule_in on)
+      → points_in on.points c ≡ dispatched_curve (row_of f (row_in row))
+  unfolding row_in schedule_in
+  dispatched_points part = read_curve f (row_in row) dispatched_among read part
+
+  -- so what its curve says of the row, whatever its schedules, is Scheduled
+  pub dispatched_scheduled : {c : List ℕ} → c ≡ curve_part f (schedule_in on) → {kw : ℕ}
+      → ((ss : List Schedule) → kw ≡ scheduled_by (points_in on.points c) (row_with (row_in row) ss))
+      → kw ≡ scheduled (row_of f (row_in row))
+  unfolding scheduled row_of row_with
+  dispatched_scheduled part is =
+      is (row_of f (row_in row)).schedules
+      ∙ ap (λ ps. scheduled_by ps (row_of f (row_in row))) (dispatched_points part)
+
+  -- which is what bonus is cut to
+  pub scheduled_cut : scheduled (row_of f (row_in row)) ≡ bonus_cut (row_of f (row_in row))
+  unfolding row_in
+  scheduled_cut = cut_some (row_of f (row_in row)) (curve_some f (row_in row) dispatched_among s)

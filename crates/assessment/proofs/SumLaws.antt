@@ -11,6 +11,7 @@ use Rattle.reading.specs.declared.header.Header.{Header as HeaderValue}
 use Rattle.reading.proofs.RowsLeft.{rows_left, rows_start}
 use Rattle.reading.proofs.Facts.{next_row, no_row}
 use Rattle.assessment.specs.Assessment.{
+  most_actual,
   numerator_share,
   import_share,
   numerator,
@@ -18,11 +19,9 @@ use Rattle.assessment.specs.Assessment.{
   denominator,
   ratio_of,
 }
-use Rattle.assessment.specs.Values.{most_actual, most_numerator}
 
 -- before row i: both sides, with the shares of the rows that are left, are the file's; and they are bounded by i
 pub record Summed (f : List ℕ) (h : HeaderValue) (i above below : ℕ) : Type 0 where
-  pub within : i ≤ h.rows
   pub adds_above : above + sum (numerator_share h.region_wide) (rows_left f i) ≡ numerator (header_in h) (rows_of f)
   pub adds_below : below + sum denominator_share (rows_left f i) ≡ denominator (rows_of f)
   pub most_above : above ≤ most_imports + most_actual * i
@@ -36,7 +35,6 @@ module _ {f : List ℕ} {h : HeaderValue} where
   summed_start is most =
       let all = ap (sum (numerator_share h.region_wide)) (rows_start f) in
       record {
-        within = omega arith;
         adds_above = omega (arith, is, all);
         adds_below = sum_start denominator_share (rows_start f);
         most_above = omega arith;
@@ -52,7 +50,6 @@ module _ {f : List ℕ} {h : HeaderValue} where
   summed_turn read {i} {above} {below} s here word more less is_more most_more is_less most_less =
       let turn = next_row read i here word in
       record {
-        within = omega arith;
         adds_above = sum_turn (numerator_share h.region_wide) above _ more turn s.adds_above is_more;
         adds_below = sum_turn denominator_share below _ less turn s.adds_below is_less;
         most_above = omega (arith, s);
@@ -61,11 +58,11 @@ module _ {f : List ℕ} {h : HeaderValue} where
 
   -- with no row left, they are the ratio
   pub summed_end : Tabled f h → {i above below : ℕ} → Summed f h i above below → h.rows ≤ i
-      → (record { numerator = above; denominator = below } ≡ ratio_of (header_of f) (rows_of f)) × (above ≤ most_numerator)
+      → record { numerator = above; denominator = below } ≡ ratio_of (header_of f) (rows_of f)
   unfolding ratio_of
   summed_end t {i} {above} {below} s done =
       let none = no_row t.read i done in
       let sum_above = sum_end (numerator_share h.region_wide) above _ none s.adds_above in
       let up = sum_above ∙ ap (λ h. numerator h (rows_of f)) t.read.says in
       let down = sum_end denominator_share below _ none s.adds_below in
-      (λ j. record { numerator = up j; denominator = down j }, omega (arith, s, t))
+      λ j. record { numerator = up j; denominator = down j }

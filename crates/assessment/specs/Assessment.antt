@@ -5,6 +5,9 @@ use Rattle.std.specs.Int.Signed.{le_z, lt_z}
 use Rattle.words.specs.Lists.{sum}
 use Rattle.reading.specs.Block.{Terms, transition_year}
 use Rattle.reading.specs.Interval.{
+  most_kilowatts,
+  most_imports,
+  most_rows,
   market,
   price_based,
   Header,
@@ -33,6 +36,14 @@ limit_factor = 3
 -- the most cents of a pool, and so the most carried
 abbrev pub most_cents : ℕ
 most_cents = 1099511627775
+
+-- the most actual kW of a row: metered plus adjustment; and so its most bonus
+abbrev pub most_actual : ℕ
+most_actual = 2 * most_kilowatts
+
+-- the most kW of a numerator: the imports, and the actual of each row
+abbrev pub most_numerator : ℕ
+most_numerator = most_imports + most_actual * most_rows
 
 -- a signed number, or 0 if it is negative
 unfoldable pub or_zero : ℤ → ℕ

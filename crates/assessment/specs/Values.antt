@@ -1,9 +1,10 @@
 -- What the values of the code say, as the records that the definitions speak of;
--- and the most that figures of an accepted file are.
-use Rattle.std.specs.Prelude.{ℕ, ◌+◌, ◌*◌}
+-- and the most cents of a charge.
+use Rattle.std.specs.Prelude.{◌≡◌, ℕ, ◌+◌, ◌-◌, ◌*◌, ◌<◌, List, true, false, drop, ℤ}
+use Rattle.std.specs.Int.Signed.{le_z}
 use Rattle.reading.specs.Block.{Terms, most_net_cone, leap_year}
-use Rattle.reading.specs.Interval.{most_kilowatts, most_imports, most_rows}
-use Rattle.assessment.specs.Assessment.{Ratio, RowFigures, Account, full_charge}
+use Rattle.reading.specs.Interval.{most_kilowatts, point_bytes, point_at, points_in}
+use Rattle.assessment.specs.Assessment.{from_last_reached, Ratio, RowFigures, Account, full_charge}
 use Rattle.assessment.specs.declared.ratio.Ratio.{Ratio as RatioValue}
 use Rattle.assessment.specs.declared.row.Figures.{Figures as FiguresValue}
 use Rattle.assessment.specs.declared.account.Account.{Account as AccountValue}
@@ -27,13 +28,13 @@ figures_in f = record {
 unfoldable pub account_in : AccountValue → Account
 account_in a = record { id = a.id; largest = a.largest.0; charged = a.charged.0; credited = a.credited.0 }
 
--- the most actual kW of a row: metered plus adjustment; and so its most bonus
-abbrev pub most_actual : ℕ
-most_actual = 2 * most_kilowatts
-
--- the most kW of a numerator: the imports, and the actual of each row
-abbrev pub most_numerator : ℕ
-most_numerator = most_imports + most_actual * most_rows
+-- of the n points that a stretch of bytes starts with, point i is the last one priced at or below the LMP:
+-- the curve from the last one reached on is what starts there, and the next one is not reached
+pub record LastReached (lmp : ℤ) (n : ℕ) (b : List ℕ) (i : ℕ) : Type 0 where
+  pub among : i < n
+  pub rest : from_last_reached lmp (points_in n b) ≡ points_in (n - i) (drop (point_bytes * i) b)
+  pub reached : le_z (point_at b i).price lmp ≡ true
+  pub next_not_reached : i + 1 < n → le_z (point_at b (i + 1)).price lmp ≡ false
 
 -- the highest terms
 abbrev pub highest_terms : Terms

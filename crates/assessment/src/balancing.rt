@@ -4,22 +4,23 @@ ghost use Rattle.std.specs.Prelude.{◌≡◌, false, ◌≤◌};
 ghost use Rattle.reading.specs.Interval.{most_imports, header_of, header_outside, rows_of};
 ghost use Rattle.reading.specs.Values.{header_in, Tabled, Scanned};
 ghost use Rattle.assessment.specs.Assessment.{import_share, ratio_of};
-ghost use Rattle.assessment.specs.Values.{most_numerator, ratio_in};
+ghost use Rattle.assessment.specs.Values.{ratio_in};
 
 use crate::ratio::Ratio;
 use crate::row::{denominator_share, numerator_share};
-use crate::units::Kilowatts;
+use crate::units::{Kilowatts, Quantity};
 use reading::header::Header;
 use reading::rows::row_at;
 
 // What the net imports add to the numerator: only when region-wide, if positive.
+#[tactic(auto, using(crate::proofs::ValueBounds::net_imports), unfolding(crate::proofs::Opened::import_rule))]
 fn import_share(h: Header) -> Kilowatts
     requires { header_outside (header_in h) ≡ false }
     ensures result_value { result.0 ≡ import_share (header_in h) }
     ensures result_le_most_imports { result.0 ≤ most_imports }
 {
     if h.region_wide == 1 {
-        return Kilowatts::or_none(h.imports);
+        return Kilowatts::or_zero(h.imports);
     }
     Kilowatts(0)
 }
@@ -29,17 +30,14 @@ pub fn ratio_of(file: &[u8], h: Header) -> Ratio
     requires tabled { Tabled file.now h }
     requires h_value { header_outside (header_in h) ≡ false }
     requires scanned { Scanned file.now }
-    ensures result_value { ratio_in result ≡ ratio_of (header_of file.now) (rows_of file.now) }
-    ensures numerator_le_most_numerator { result.numerator.0 ≤ most_numerator }
+    ensures { ratio_in result ≡ ratio_of (header_of file.now) (rows_of file.now) }
 {
     let mut numerator = import_share(h);
     let mut denominator = Kilowatts(0);
-    let mut i = 0;
-    while i < h.rows {
+    for i in 0..h.rows {
         let row = row_at(file, h, i);
         numerator = numerator.plus(numerator_share(file, h, row));
         denominator = denominator.plus(denominator_share(row));
-        i += 1;
     }
     Ratio {
         numerator,

@@ -26,7 +26,7 @@ ghost use Rattle.assessment.specs.Assessment.{
 };
 
 use crate::curve::{consumes, scheduled};
-use crate::units::Kilowatts;
+use crate::units::{Kilowatts, Quantity};
 use reading::header::Header;
 use reading::rows::{
     ENERGY_ONLY, IMPORTER, MARKET, PRICE_BASED, RESPONSIVE, Row, curve, dispatched_on, schedule_at,
@@ -41,16 +41,18 @@ pub struct Offer {
 }
 
 // Owned kW without both outages.
+#[tactic(auto, using(crate::proofs::ValueBounds::outages_le), unfolding(crate::proofs::Opened::available_rule))]
 pub fn available(row: Row) -> Kilowatts
     requires { row_outside (row_in row) ≡ false }
     ensures { (ss : List Schedule) → result.0 ≡ available_of (row_with (row_in row) ss) }
 {
     let out = Kilowatts(row.planned).plus(Kilowatts(row.forced));
-    Kilowatts(row.owned).less(out)
+    Kilowatts(row.owned).minus(out)
 }
 
 // Whether the economic rule of a row dispatched on a schedule of one kind looks at one of another.
 // On a cost schedule it looks at no other, even of its own kind.
+#[tactic(auto, unfolding(crate::specs::Assessment::looks_at))]
 fn looks_at(on: u64, other: u64) -> bool
     ensures { result ≡ looks_at on other }
 {
@@ -90,12 +92,10 @@ fn highest(file: &[u8], h: Header, row: Row, on: u64, own: Kilowatts) -> Kilowat
         return own;
     }
     let mut most = own;
-    let mut k = 0;
-    while k < count {
+    for k in 0..count {
         if k != row.dispatched {
-            most = most.greater(counted(file, h, row, on, k));
+            most = most.max(counted(file, h, row, on, k));
         }
-        k += 1;
     }
     most
 }
@@ -138,15 +138,15 @@ fn responds(file: &[u8], h: Header, row: Row) -> bool
 }
 
 // Whether a row is considered, by the kind word: a PRD row by its curve, an importer by the event.
+#[tactic(auto, unfolding(crate::proofs::Opened::by_kind))]
 pub fn considered(file: &[u8], h: Header, row: Row) -> bool
     requires tabled { Tabled file.now h }
     requires sound { Sound file.now (row_in row) }
     ensures { result ≡ considered_of h.region_wide (row_of file.now (row_in row)) }
 {
-    let kind = row.kind;
-    match kind {
+    match row.kind {
         RESPONSIVE => responds(file, h, row),
         IMPORTER => h.region_wide == 1,
-        _ => kind <= ENERGY_ONLY,
+        kind => kind <= ENERGY_ONLY,
     }
 }

@@ -2,8 +2,14 @@
 
 ghost use Rattle.std.specs.Prelude.{◌≡◌, cond, ◌*◌, ◌/◌, ◌≤◌, ◌<◌, ◌^◌, eqb};
 ghost use Rattle.reading.specs.Interval.{most_kilowatts};
-ghost use Rattle.assessment.specs.Assessment.{most_cents, portion as portion_of, printed_ratio, share as share_of};
-ghost use Rattle.assessment.specs.Values.{most_actual, most_numerator, ratio_in};
+ghost use Rattle.assessment.specs.Assessment.{
+  most_cents,
+  most_actual,
+  most_numerator,
+  portion as portion_of,
+  printed_ratio,
+  share as share_of,
+};
 
 use crate::units::{Cents, Kilowatts};
 
@@ -15,6 +21,7 @@ const MILLIONTHS: u64 = 1000000;
 pub struct Ratio {
     pub numerator: Kilowatts,
     pub denominator: Kilowatts,
+    pub ghost numerator_limit: { numerator.0 ≤ most_numerator },
 }
 
 // The cents that a total bonus shares.
@@ -22,6 +29,7 @@ pub struct Ratio {
 pub struct Share {
     pub pool: Cents,
     pub bonus: Kilowatts,
+    pub ghost pool_limit: { pool.0 ≤ most_cents },
 }
 
 // A product over a divisor, rounded down once, and 0 without a divisor.
@@ -29,41 +37,43 @@ fn quotient(x: u64, y: u64, d: u64) -> u64
     requires { x * y < 2 ^ 64 }
     ensures { result ≡ cond (eqb d 0) 0 (x * y / d) }
 {
-    if d == 0 {
-        return 0;
-    }
-    x * y / d
+    (x * y).checked_div(d).unwrap_or(0)
 }
 
 impl Ratio {
-    // So much of some kW as the ratio says: never more than all of them, and none without a denominator.
+    ghost use Rattle.assessment.specs.Values.{ratio_in};
+
+    // The ratio's part of a whole: never more than the whole, and none without a denominator.
+    #[tactic(auto, unfolding(crate::specs::Assessment::portion, crate::specs::Values::ratio_in))]
+    fn part_of(self, whole: u64) -> u64
+        requires { whole ≤ most_kilowatts }
+        ensures { result ≡ portion_of (ratio_in self) whole }
+    {
+        quotient(whole, self.numerator.0, self.denominator.0).min(whole)
+    }
+
+    // The ratio's part of some kW.
     pub fn portion(self, kw: Kilowatts) -> Kilowatts
-        requires numerator_le_most_numerator { self.numerator.0 ≤ most_numerator }
-        requires kw_le_most_kilowatts { kw.0 ≤ most_kilowatts }
+        requires { kw.0 ≤ most_kilowatts }
         ensures { result.0 ≡ portion_of (ratio_in self) kw.0 }
     {
-        let part = quotient(kw.0, self.numerator.0, self.denominator.0);
-        Kilowatts(part).lesser(kw)
+        Kilowatts(self.part_of(kw.0))
     }
 
     // The printed ratio.
+    #[tactic(auto, unfolding(crate::specs::Assessment::printed_ratio))]
     pub fn millionths(self) -> u64
-        requires { self.numerator.0 ≤ most_numerator }
         ensures { result ≡ printed_ratio (ratio_in self) }
     {
-        let part = quotient(MILLIONTHS, self.numerator.0, self.denominator.0);
-        if MILLIONTHS < part {
-            return MILLIONTHS;
-        }
-        part
+        self.part_of(MILLIONTHS)
     }
 }
 
 impl Share {
     // Credit, for some of the bonus; nothing with no bonus.
+    #[tactic(auto, unfolding(crate::specs::Assessment::share))]
     pub fn credit(self, bonus: Kilowatts) -> Cents
-        requires pool_le_most_cents { self.pool.0 ≤ most_cents }
-        requires bonus_le_most_actual { bonus.0 ≤ most_actual }
+        requires { bonus.0 ≤ most_actual }
         ensures { result.0 ≡ share_of self.pool.0 self.bonus.0 bonus.0 }
     {
         Cents(quotient(bonus.0, self.pool.0, self.bonus.0))

@@ -37,8 +37,8 @@ fn listing(ledger: &mut [u8])
         1000,
         &mut short,
     );
-    words(b"01 result as it was: ", &short, 8);
-    words(b"01 ledger as it was: ", ledger, 8);
+    words::<8>(b"01 result as it was: ", &short);
+    words::<8>(b"01 ledger as it was: ", ledger);
     let mut result = [255u8; 320];
     settle(
         b"01 interval 1000, 320 result bytes: ",
@@ -58,7 +58,7 @@ fn intervals(ledger: &mut [u8]) {
     settle(b"01 interval 105119: ", ledger, 105119, &mut result);
     settle(b"01 interval 105119 again: ", ledger, 105119, &mut result);
     result_words(&result);
-    words(b"01 beyond the rows: ", &result[320..], 1);
+    words::<1>(b"01 beyond the rows: ", &result[320..]);
 }
 
 fn main() {

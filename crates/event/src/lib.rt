@@ -10,7 +10,7 @@ use reading::header::header_of;
 use settling::call::settle_file;
 use settling::result::result_bytes;
 use stream::LENGTH_BYTES;
-use words::{number32, put64};
+use words::{Word, put};
 
 const COUNT_BYTES: usize = 8;
 
@@ -50,7 +50,7 @@ fn next_file(files: &[u8], at: usize) -> Place
         };
     }
     let from = at + LENGTH_BYTES;
-    let bytes = number32(files, at) as usize;
+    let bytes = u32::number(files, at) as usize;
     if left - LENGTH_BYTES < bytes {
         return Place {
             whole: false,
@@ -137,6 +137,6 @@ pub fn settle_event(ledger: &mut [u8], files: &[u8], res: &mut [u8], count: &mut
         return 20;
     }
     let settled = settle_files(ledger, files, res);
-    put64(count, 0, settled.files);
+    put::<u64>(count, 0, settled.files);
     settled.refusal
 }

@@ -5,6 +5,10 @@ use Rattle.std.specs.Prelude.{ℕ}
 abbrev pub label_room : ℕ
 label_room = 64
 
+-- the most figures of a line
+abbrev pub most_figures : ℕ
+most_figures = 8
+
 -- the words of three rows of 14 words, as many as a case has
 abbrev pub case_row_words : ℕ
 case_row_words = 42

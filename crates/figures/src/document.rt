@@ -4,7 +4,7 @@ ghost use Rattle.std.specs.Prelude.{◌≡◌};
 ghost use Rattle.ledger.specs.Figures.{listing_block};
 ghost use Rattle.settling.specs.Figures.{listing_file};
 
-use words::store32;
+use words::store;
 
 const BLOCK: [u64; 9] = [1, 30000, 365, 4, 20, 11, 12, 13, 14];
 
@@ -25,7 +25,7 @@ pub fn block() -> [u8; 36]
     ensures { result ≡ listing_block }
 {
     let mut block = [0u8; 36];
-    store32(&BLOCK, &mut block);
+    store::<u32>(&BLOCK, &mut block);
     block
 }
 
@@ -35,6 +35,6 @@ pub fn file(interval: u64) -> [u8; 312]
     let mut words = FILE;
     words[1] = interval;
     let mut file = [0u8; 312];
-    store32(&words, &mut file);
+    store::<u32>(&words, &mut file);
     file
 }

@@ -6,6 +6,7 @@ use native.Mathlib.Numerals.{add-one}
 use native.Mathlib.Omega.{arith}
 use lib.ListN.{length, take, drop, get_or, length-map, length-drop, drop_of_length-le, take-append-drop, get_or-map}
 use lib.Seq.{drop-cons, drop-drop, drop-append-le, length-take-le}
+use Rattle.std.proofs.lemmas.List.{drop-map}
 use Rattle.words.specs.Words.{number, number_at, word64, entries, written, written_at}
 use Rattle.words.proofs.Words.{length_entries, entry_at}
 use Rattle.words.proofs.Access.{length_written_at, beyond_kept, write_none, write_more}
@@ -84,12 +85,6 @@ table_drop size read (suc n) (suc j) b =
     table_drop size read n j (drop size b)
     ∙ rw (left, ← next) (ap (entries size read (n - j)) (drop-drop (size * j) size b))
 
--- to map and then drop is to drop and then map
-drop_map : {A B : Type 0} (f : A → B) (j : ℕ) (xs : List A) → drop j (map f xs) ≡ map f (drop j xs)
-drop_map f zero xs = refl
-drop_map f (suc j) [] = refl
-drop_map f (suc j) (x ∷ xs) = drop_map f j xs
-
 -- two ledgers with the same bytes from account j on
 module _ (b c : List ℕ) (j : ℕ) (count : account_count c ≡ account_count b)
     (same : drop (ledger_bytes j) c ≡ drop (ledger_bytes j) b) where
@@ -110,8 +105,8 @@ module _ (b c : List ℕ) (j : ℕ) (count : account_count c ≡ account_count b
   pub ids_behind : drop j (ids_in (ledger_of c)) ≡ drop j (ids_in (ledger_of b))
   unfolding ids_in
   ids_behind =
-      drop_map (λ a. a.id) j (ledger_of c).accounts ∙ ap (map (λ a. a.id)) accounts_behind
-      ∙ sym (drop_map (λ a. a.id) j (ledger_of b).accounts)
+      drop-map (λ a. a.id) j (ledger_of c).accounts ∙ ap (map (λ a. a.id)) accounts_behind
+      ∙ sym (drop-map (λ a. a.id) j (ledger_of b).accounts)
 
 -- a number in the front part of a buffer does not depend on what stands behind it
 number_front : (n : ℕ) (front xs ys : List ℕ) → n ≤ length front → number n (front ++ xs) ≡ number n (front ++ ys)

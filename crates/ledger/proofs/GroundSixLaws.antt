@@ -33,11 +33,11 @@ use Rattle.ledger.specs.Ledger.{
   does_not_close,
   not_a_ledger,
 }
-use Rattle.ledger.specs.Values.{standing_in}
+use Rattle.ledger.specs.Values.{standing_in, LedgerRead}
 use Rattle.ledger.specs.declared.layout.Standing.{Standing as StandingValue}
 use Rattle.ledger.proofs.Accounts.{accounts_turn, accounts_end}
 use Rattle.ledger.proofs.LayoutLaws.{unlaid}
-use Rattle.ledger.proofs.Sound.{account_in_lem, said}
+use Rattle.ledger.proofs.Sound.{account_in_lem, said, ledger_read}
 
 -- one alternative that holds makes them hold
 pub or_first : (s t : Bool) → s ≡ true → (s || t) ≡ true
@@ -115,7 +115,6 @@ accounts_refused b =
 
 -- the pass over the accounts at account j: the last id, and what is charged and credited so far, with what is carried
 pub record Passing (b : List ℕ) (s : StandingValue) (last charged credited j : ℕ) : Type 0 where
-  pub within : j ≤ s.accounts
   pub left : accounts_refused b
       ≡ refused_from (terms_in s.terms) last charged credited (drop j (ledger_of b).accounts)
   pub charged_low : charged ≤ most_limit * j
@@ -132,7 +131,6 @@ passing_start b s says few =
     let given = sum (λ a. a.credited) l.accounts in
     let credited : given + l.carried ≡ s.carried.0 + given = omega (arith, v) in
     record {
-      within = omega arith;
       left = λ i. order_is (ids_in l) i || any (account_outside (sym v.terms i)) l.accounts
           || not (eqb (charged i) (credited i));
       charged_low = omega arith;
@@ -141,14 +139,14 @@ passing_start b s says few =
 
 -- the account at j, whose id, commitment and sums are a
 module _ {b : List ℕ} {s : StandingValue} {last charged credited j : ℕ} (p : Passing b s last charged credited j)
-    (says : standing_in s ≡ standing_of b) (more : j < s.accounts) (a : Account)
+    (more : j < account_count b) (a : Account)
     (is : a ≡ account_at (drop (ledger_bytes j) b)) where
   -- what is asked of the accounts left is asked of it and of the rest
   next : accounts_refused b
       ≡ refused_from (terms_in s.terms) last charged credited (a ∷ drop (j + 1) (ledger_of b).accounts)
   next =
       let turn =
-      accounts_turn b j (omega (arith, said b s says))
+      accounts_turn b j more
       ∙ ap (λ a. a ∷ drop (j + 1) (ledger_of b).accounts) (sym is) in
       p.left ∙ ap (refused_from (terms_in s.terms) last charged credited) turn
 
@@ -186,7 +184,6 @@ module _ {b : List ℕ} {s : StandingValue} {last charged credited j : ℕ} (p :
         let gives : credited + (a.credited + sum (λ a. a.credited) rest) ≡ y + sum (λ a. a.credited) rest =
         omega arith in
         record {
-          within = omega arith;
           left = next ∙ rw (lt-ltb last a.id up, e, pays, gives);
           charged_low = omega (arith, p.charged_low, charged_most);
           credited_low = omega (arith, p.credited_low, credited_most);
@@ -194,13 +191,13 @@ module _ {b : List ℕ} {s : StandingValue} {last charged credited j : ℕ} (p :
 
 -- where no account is left, the two sums decide
 pub passing_end : {b : List ℕ} {s : StandingValue} {last charged credited j : ℕ} → Passing b s last charged credited j
-    → standing_in s ≡ standing_of b → s.accounts ≤ j → accounts_refused b ≡ not (eqb charged credited)
+    → account_count b ≤ j → accounts_refused b ≡ not (eqb charged credited)
 unfolding any rises_above sum
-passing_end {b} {s} {last} {charged} {credited} {j} p says none =
+passing_end {b} {s} {last} {charged} {credited} {j} p none =
     let paid : charged + 0 ≡ charged = omega arith in
     let given : credited + 0 ≡ credited = omega arith in
     p.left
-    ∙ ap (refused_from (terms_in s.terms) last charged credited) (accounts_end b j (omega (arith, said b s says)))
+    ∙ ap (refused_from (terms_in s.terms) last charged credited) (accounts_end b j none)
     ∙ rw (paid, given)
 
 -- tests of one chain, in two orders
@@ -235,25 +232,76 @@ standing_refused_lem b s says =
     let v = said b s says in
     λ i. standing_outside (v.terms i) (v.count i) (length b) (v.earliest i) (v.carried i)
 
-module _ (b : List ℕ) where
+-- what the code's tests of a buffer say of it, one after the other: of its layout,
+module _ (b : List ℕ) {bad_layout : Bool} (layout : bad_layout ≡ unlaid b) where
   -- ground 6 refuses a buffer that is not laid out
-  pub layout_refuses : unlaid b ≡ true → not_a_ledger b ≡ true
-  layout_refuses e = ground_6_is b ∙ rw e
+  pub layout_refuses : bad_layout ≡ true → not_a_ledger b ≡ true
+  layout_refuses e = ground_6_is b ∙ rw (sym layout ∙ e)
 
-  -- one that is laid out has the header's bytes
-  pub laid_long : unlaid b ≡ false → ledger_header_bytes ≤ length b
-  laid_long e = search facts
+  module _ (laid : bad_layout ≡ false) where
+    -- one that is laid out has the header's bytes
+    pub laid_long : ledger_header_bytes ≤ length b
+    laid_long = let known = sym layout ∙ laid in search facts
 
-  -- what a value says that stands before its accounts
-  module _ (s : StandingValue) (says : standing_in s ≡ standing_of b) {range : Bool} (tests : range
-      ≡ standing_outside (terms_in s.terms) s.accounts (length b) s.earliest s.carried.0) where
-    -- ground 6 refuses it where that is out of range
-    pub standing_refuses : range ≡ true → not_a_ledger b ≡ true
-    standing_refuses e = ground_6_is b ∙ rw (sym (standing_refused_lem b s says) ∙ sym tests ∙ e, or-true)
+    -- of what a value says that stands before its accounts,
+    module _ (s : StandingValue) (says : standing_in s ≡ standing_of b) {out_of_range : Bool} (range : out_of_range
+        ≡ standing_outside (terms_in s.terms) s.accounts (length b) s.earliest s.carried.0) where
+      -- ground 6 refuses it where that is out of range
+      pub standing_refuses : out_of_range ≡ true → not_a_ledger b ≡ true
+      standing_refuses e = ground_6_is b ∙ rw (sym (standing_refused_lem b s says) ∙ sym range ∙ e, or-true)
 
-    -- and else the accounts decide
-    pub accounts_decide : unlaid b ≡ false → range ≡ false → not_a_ledger b ≡ accounts_refused b
-    accounts_decide laid e = ground_6_is b ∙ rw (laid, sym (standing_refused_lem b s says) ∙ sym tests ∙ e)
+      -- and of its accounts
+      module _ (inside : out_of_range ≡ false) {refused : Bool} (accounts : refused ≡ accounts_refused b) where
+        -- where it refuses none of the others, it refuses them just where these are
+        accounts_decide : not_a_ledger b ≡ refused
+        accounts_decide =
+            ground_6_is b
+            ∙ rw (sym layout ∙ laid, sym (standing_refused_lem b s says) ∙ sym range ∙ inside) (sym accounts)
+
+        pub accounts_refuse : refused ≡ true → not_a_ledger b ≡ true
+        accounts_refuse e = accounts_decide ∙ e
+
+        pub accounts_pass : refused ≡ false → not_a_ledger b ≡ false
+        accounts_pass e = accounts_decide ∙ e
+
+        -- else the value is one read from a ledger
+        pub passed_read : refused ≡ false → LedgerRead b s
+        passed_read e = ledger_read b s (accounts_pass e) says
+
+-- what is known of what stands before the accounts where the test of its range is passed
+module _ (t : Terms) (n bytes earliest carried : ℕ) {out_of_range : Bool}
+    (range : out_of_range ≡ standing_outside t n bytes earliest carried) (inside : out_of_range ≡ false) where
+  -- the terms are those of ground 2
+  pub terms_of_range : terms_outside t ≡ false
+  unfolding ledger_terms_outside
+  terms_of_range = let known = sym range ∙ inside in search facts depth 9
+
+  -- there are no more than the most accounts
+  pub few_of_range : n ≤ most_ids
+  unfolding outside
+  few_of_range = let known = sym range ∙ inside in search facts depth 9
+
+  -- there is room for them
+  pub room_of_range : ledger_bytes n ≤ bytes
+  room_of_range = let known = sym range ∙ inside in search facts depth 9
+
+  -- and no more than the most cents are carried
+  pub carried_of_range : carried ≤ most_cents
+  carried_of_range = let known = sym range ∙ inside in search facts depth 9
+
+-- by these, search finds what the tests made so far say of ground 6
+pub ruleset tests = (
+  layout_refuses,
+  laid_long,
+  standing_refuses,
+  accounts_refuse,
+  accounts_pass,
+  passed_read,
+  terms_of_range,
+  few_of_range,
+  room_of_range,
+  carried_of_range,
+)
 
 -- no other test holds, so the sums decide
 pub sums_decide : (b : List ℕ) → ledger_header_bytes ≤ length b → not_laid_out b ≡ false

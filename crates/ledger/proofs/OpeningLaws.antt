@@ -2,7 +2,7 @@
 use Prim.Native.Nat.{ℕ, ◌+◌, ◌≤◌, ◌<◌}
 use mathlib.Core.Path.{◌≡◌, sym, ap, ap₂, subst, ◌∙◌}
 use mathlib.Core.List.{List, [], ◌∷◌, map}
-use mathlib.Core.Bool.{true, false}
+use mathlib.Core.Bool.{Bool, true, false}
 use native.Mathlib.Omega.{arith}
 use lib.ListN.{length, drop, get_or, length-map, drop_of_length-le}
 use borrow.Author.Tests.{lt-ltb, le-ltb, ne_eqb}
@@ -20,9 +20,9 @@ use Rattle.reading.specs.Block.{
   ids_misplaced,
   ids_out_of_order,
 }
-use Rattle.reading.specs.Values.{terms_in, block_in, Listed}
+use Rattle.reading.specs.Values.{terms_in, block_in, BlockRead, Listed}
 use Rattle.reading.specs.declared.block.Block.{Block as BlockValue}
-use Rattle.reading.proofs.Facts.{block_read, terms_of_block, length_listed}
+use Rattle.reading.proofs.Facts.{block_read, listed, terms_of_block, length_listed}
 use Rattle.reading.proofs.Order.{next_at}
 use Rattle.assessment.specs.Assessment.{Account, empty_account}
 use Rattle.ledger.specs.Ledger.{
@@ -38,65 +38,100 @@ use Rattle.ledger.proofs.Accounts.{accounts_on, accounts_written}
 use Rattle.ledger.proofs.OpeningAnswers.{opening_accepts, opening_refuses}
 use Rattle.ledger.proofs.Sound.{block_accepted}
 
--- the answer to a block b and a ledger buffer l
-module _ (b l : List ℕ) where
-  -- bytes that are not an opening block are answered 1
-  pub opening_1 : not_a_block b ≡ true → answered (opening_grounds b l) ≡ 1
-  unfolding answered opening_grounds
-  opening_1 e = rw e
+-- the answer to a block b and a ledger buffer l, and what the code's tests say of it, one after the other
+module _ (b l : List ℕ) {no_block : Bool} (block : no_block ≡ not_a_block b) where
+  -- the first of the grounds of opening that applies
+  abbrev answer : ℕ
+  answer = answered (opening_grounds b l)
 
-  -- past ground 1, of a value that says the block's words
-  module _ (e₁ : not_a_block b ≡ false) (v : BlockValue) (says : block_in v ≡ block_words b) where
+  -- bytes that are not an opening block are answered 1
+  pub opening_1 : no_block ≡ true → 1 ≡ answer
+  unfolding answered opening_grounds
+  opening_1 e = rw (sym block ∙ e)
+
+  -- past ground 1, a value says the block's words
+  module _ (is_block : no_block ≡ false) (v : BlockValue) (says : block_in v ≡ block_words b) where
+    e₁ : not_a_block b ≡ false
+    e₁ = sym block ∙ is_block
+
+    -- it is read from the block
+    pub value_read : BlockRead b v
+    value_read = block_read e₁ says
+
     -- its terms are the block's
     own : terms_in v.terms ≡ (block_of b).terms
-    own = terms_of_block (block_read e₁ says)
+    own = terms_of_block value_read
 
     -- and its number of ids is the block's
     count : v.ids ≡ (block_words b).id_count
     unfolding block_in
     count = ap (λ w. w.id_count) says
 
-    -- a Net CONE or days out of range are answered 2
-    pub opening_2 : terms_outside (terms_in v.terms) ≡ true → answered (opening_grounds b l) ≡ 2
-    unfolding answered opening_grounds
-    opening_2 e = rw (e₁, sym (ap terms_outside own) ∙ e)
-
-    module _ (e₂ : terms_outside (terms_in v.terms) ≡ false) where
-      -- past ground 2, a year that no block may name is answered 23
-      pub opening_23 : year_unknown (block_in v) ≡ true → answered (opening_grounds b l) ≡ 23
+    module _ {outside : Bool} (terms : outside ≡ terms_outside (terms_in v.terms)) where
+      -- a Net CONE or days out of range are answered 2
+      pub opening_2 : outside ≡ true → 2 ≡ answer
       unfolding answered opening_grounds
-      opening_23 e = rw (e₁, sym (ap terms_outside own) ∙ e₂, sym (ap year_unknown says) ∙ e)
+      opening_2 e = rw (e₁, sym (ap terms_outside own) ∙ sym terms ∙ e)
 
-      module _ (known : year_unknown (block_in v) ≡ false) where
-        -- ground 23 does not apply to the block
-        e₂₃ : year_unknown (block_words b) ≡ false
-        e₂₃ = sym (ap year_unknown says) ∙ known
+      module _ (inside : outside ≡ false) {unknown : Bool} (year : unknown ≡ year_unknown (block_in v)) where
+        e₂ : terms_outside (block_of b).terms ≡ false
+        e₂ = sym (ap terms_outside own) ∙ sym terms ∙ inside
 
-        -- past ground 23, a wrong number or place of the ids is answered 3
-        pub opening_3 : ids_misplaced b ≡ true → answered (opening_grounds b l) ≡ 3
+        -- past ground 2, a year that no block may name is answered 23
+        pub opening_23 : unknown ≡ true → 23 ≡ answer
         unfolding answered opening_grounds
-        opening_3 e = rw (e₁, sym (ap terms_outside own) ∙ e₂, e₂₃, e)
+        opening_23 e = rw (e₁, e₂, sym (ap year_unknown says) ∙ sym year ∙ e)
 
-        module _ (e₃ : ids_misplaced b ≡ false) where
-          -- past ground 3, ids out of order are answered 4
-          pub opening_4 : ids_out_of_order (block_of b).ids ≡ true → answered (opening_grounds b l) ≡ 4
+        module _ (known : unknown ≡ false) {misplaced : Bool} (place : misplaced ≡ ids_misplaced b) where
+          e₂₃ : year_unknown (block_words b) ≡ false
+          e₂₃ = sym (ap year_unknown says) ∙ sym year ∙ known
+
+          -- past ground 23, a wrong number or place of the ids is answered 3
+          pub opening_3 : misplaced ≡ true → 3 ≡ answer
           unfolding answered opening_grounds
-          opening_4 e = rw (e₁, sym (ap terms_outside own) ∙ e₂, e₂₃, e₃, e)
+          opening_3 e = rw (e₁, e₂, e₂₃, sym place ∙ e)
 
-          module _ (e₄ : ids_out_of_order (block_of b).ids ≡ false) where
-            -- past ground 4, a ledger buffer too short for the ids is answered 5
-            pub opening_5 : length l < ledger_bytes v.ids → answered (opening_grounds b l) ≡ 5
-            unfolding answered opening_grounds ledger_too_short
-            opening_5 h =
-                let short = lt-ltb (length l) (ledger_bytes v.ids) h in
-                rw (e₁, sym (ap terms_outside own) ∙ e₂, e₂₃, e₃, e₄, ← count, short)
+          module _ (placed : misplaced ≡ false) {unordered : Bool}
+              (order : unordered ≡ ids_out_of_order (block_of b).ids) where
+            e₃ : ids_misplaced b ≡ false
+            e₃ = sym place ∙ placed
 
-            -- and one with room for them 0
-            pub opening_0 : ledger_bytes v.ids ≤ length l → answered (opening_grounds b l) ≡ 0
-            unfolding answered opening_grounds ledger_too_short
-            opening_0 h =
-                let room = le-ltb (length l) (ledger_bytes v.ids) h in
-                rw (e₁, sym (ap terms_outside own) ∙ e₂, e₂₃, e₃, e₄, ← count, room)
+            -- past ground 3, ids out of order are answered 4
+            pub opening_4 : unordered ≡ true → 4 ≡ answer
+            unfolding answered opening_grounds
+            opening_4 e = rw (e₁, e₂, e₂₃, e₃, sym order ∙ e)
+
+            module _ (ordered : unordered ≡ false) {bytes : ℕ} (room : bytes ≡ ledger_bytes v.ids) where
+              e₄ : ids_out_of_order (block_of b).ids ≡ false
+              e₄ = sym order ∙ ordered
+
+              -- past ground 4, a ledger buffer too short for the ids is answered 5
+              pub opening_5 : length l < bytes → 5 ≡ answer
+              unfolding answered opening_grounds ledger_too_short
+              opening_5 h = rw (e₁, e₂, e₂₃, e₃, e₄, ← count, ← room, lt-ltb (length l) bytes h)
+
+              -- and one with room for them 0
+              pub opening_0 : bytes ≤ length l → 0 ≡ answer
+              unfolding answered opening_grounds ledger_too_short
+              opening_0 h = rw (e₁, e₂, e₂₃, e₃, e₄, ← count, ← room, le-ltb (length l) bytes h)
+
+    -- where the code's test of their place says so, its ids lie within the block
+    module _ {misplaced : Bool} (place : misplaced ≡ ids_misplaced b) (placed : misplaced ≡ false) where
+      pub value_listed : Listed b v
+      value_listed = listed value_read (sym place ∙ placed)
+
+-- by these, search finds what the tests made so far say of the grounds of opening
+pub ruleset tests = (
+  opening_1,
+  value_read,
+  opening_2,
+  opening_23,
+  opening_3,
+  value_listed,
+  opening_4,
+  opening_5,
+  opening_0,
+)
 
 -- where no ground applies, the ids of a value that says the block's words lie within the block
 pub accepted_listed : (b l : List ℕ) (v : BlockValue) → answered (opening_grounds b l) ≡ 0 → block_in v ≡ block_words b

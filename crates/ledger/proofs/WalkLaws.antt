@@ -12,8 +12,10 @@ use Rattle.words.specs.Lists.{any, rises_above, rises}
 use Rattle.words.proofs.Tests.{first_holds, second_holds}
 use Rattle.words.proofs.Lists.{found_member, rises_next, rises_rest, member_above, not_among}
 use Rattle.assessment.specs.Assessment.{Account, account_of}
+use Rattle.ledger.specs.Ledger.{ledger_bytes, account_at, account_count, ledger_of, ids_in}
 use Rattle.ledger.specs.Values.{before}
 use Rattle.ledger.specs.Walk.{comparisons, pass_comparisons, BudgetSuffices}
+use Rattle.ledger.proofs.Accounts.{ids_turn, ids_end}
 
 -- whether a walk down xs finds each of some ids, each behind the one before it
 unfoldable pub finds_all : List ℕ → List ℕ → Bool
@@ -55,49 +57,44 @@ before_first id (x ∷ xs) k h = by (eqb x id) refl k h (before_first id xs)
     by false e zero h below = e
     by false e (suc k) h below = below k (omega arith)
 
--- a walk at place j
-module _ (id : ℕ) (xs : List ℕ) (j : ℕ) where
-  -- where the id stands there, no id stands before it
-  pub walk_stops : {x : ℕ} {rest : List ℕ} → drop j xs ≡ x ∷ rest → x ≡ id → before id (drop j xs) ≡ 0
-  unfolding before
-  walk_stops {x} turn e = ap (before id) turn ∙ rw (eq-eqb x id e)
+-- a walk down the ids of a ledger b to an id, at account j
+module _ (b : List ℕ) (id j : ℕ) where
+  -- the ids from an account on
+  abbrev ids_from : ℕ → List ℕ
+  ids_from k = drop k (ids_in (ledger_of b))
 
-  -- where another does, the walk goes on from the next place
-  pub walk_passes : {x : ℕ} → drop j xs ≡ x ∷ drop (j + 1) xs → (x ≡ id → ⊥)
-      → j + before id (drop j xs) ≡ j + 1 + before id (drop (j + 1) xs)
-  unfolding before
-  walk_passes {x} turn other =
-      let passed : before id (drop j xs) ≡ suc (before id (drop (j + 1) xs)) =
-      ap (before id) turn ∙ rw (ne_eqb x id other) in
-      omega (arith, passed)
+  -- where no account is left, the id stands before none, and no comparison is made
+  pub none_left : account_count b ≤ j → (before id (ids_from j) ≡ 0) × (comparisons id (ids_from j) ≡ 0)
+  unfolding before comparisons
+  none_left end = let none = ids_end b j end in (ap (before id) none, ap (comparisons id) none)
 
-  -- where none is left, none stands before it
-  pub walk_ends : drop j xs ≡ [] → before id (drop j xs) ≡ 0
-  unfolding before
-  walk_ends none = ap (before id) none
+  module _ (on : j < account_count b) where
+    -- the id of account j
+    abbrev here : ℕ
+    here = (account_at (drop (ledger_bytes j) b)).id
 
--- comparisons at place j
-module _ (id : ℕ) (xs : List ℕ) (j : ℕ) where
-  -- where the id stands there, one is made
-  pub one_comparison : {x : ℕ} {rest : List ℕ} → drop j xs ≡ x ∷ rest → x ≡ id → comparisons id (drop j xs) ≡ 1
-  unfolding comparisons
-  one_comparison {x} turn e = ap (comparisons id) turn ∙ rw (eq-eqb x id e)
+    -- one comparison is made at least
+    pub one_at_least : 1 ≤ comparisons id (ids_from j)
+    unfolding comparisons
+    one_at_least = rw (ids_turn b j on) (omega arith)
 
-  -- where another does, one is made, and those from the next place on
-  pub comparison_more : {x : ℕ} → drop j xs ≡ x ∷ drop (j + 1) xs → (x ≡ id → ⊥)
-      → comparisons id (drop j xs) ≡ 1 + comparisons id (drop (j + 1) xs)
-  unfolding comparisons
-  comparison_more {x} turn other = ap (comparisons id) turn ∙ rw (ne_eqb x id other) (omega arith)
+    -- where the id is account j's, none stands before it, and one comparison finds it
+    pub found_here : here ≡ id → (before id (ids_from j) ≡ 0) × (comparisons id (ids_from j) ≡ 1)
+    unfolding before comparisons
+    found_here e =
+        let same = eq-eqb here id e in
+        (ap (before id) (ids_turn b j on) ∙ rw same, ap (comparisons id) (ids_turn b j on) ∙ rw same)
 
-  -- where one is left, one is made at least
-  pub some_comparison : {x : ℕ} {rest : List ℕ} → drop j xs ≡ x ∷ rest → 1 ≤ comparisons id (drop j xs)
-  unfolding comparisons
-  some_comparison {x} {rest} turn = rw turn (omega arith)
-
-  -- where none is left, none is made
-  pub no_comparison : drop j xs ≡ [] → comparisons id (drop j xs) ≡ 0
-  unfolding comparisons
-  no_comparison none = ap (comparisons id) none
+    -- where it is another, the walk goes on from the next account, one comparison later
+    pub passed_by : (here ≡ id → ⊥)
+        → (j + before id (ids_from j) ≡ j + 1 + before id (ids_from (j + 1)))
+        × (comparisons id (ids_from j) ≡ 1 + comparisons id (ids_from (j + 1)))
+    unfolding before comparisons
+    passed_by other =
+        let differs = ne_eqb here id other in
+        let passed : before id (ids_from j) ≡ suc (before id (ids_from (j + 1))) =
+        ap (before id) (ids_turn b j on) ∙ rw differs in
+        (omega (arith, passed), ap (comparisons id) (ids_turn b j on) ∙ rw differs (omega arith))
 
 -- the comparisons that find an id, and the ids behind the one found, are no more than all of them
 comparisons_le : (id : ℕ) (xs : List ℕ) → comparisons id xs + length (drop (suc (before id xs)) xs) ≤ length xs

@@ -1,7 +1,7 @@
 // The ledger's words, read from the caller's buffer and written into it as values.
 // No other module knows where a word of it stands.
 
-ghost use Rattle.std.specs.Prelude.{◌≡◌, ◌||◌, ◌∷◌, [], ◌+◌, ◌≤◌, length, drop, ltb};
+ghost use Rattle.std.specs.Prelude.{◌≡◌, ◌||◌, ◌∷◌, [], ◌+◌, ◌≤◌, ◌<◌, length, drop, ltb};
 ghost use Rattle.words.specs.Words.{written, written_at};
 ghost use Rattle.reading.specs.Block.{most_ids};
 ghost use Rattle.assessment.specs.Values.{account_in};
@@ -10,6 +10,7 @@ ghost use Rattle.ledger.specs.Ledger.{
   standing_of,
   ledger_bytes,
   account_at,
+  account_count,
   standing_words,
   account_words,
   not_laid_out,
@@ -19,7 +20,7 @@ ghost use Rattle.ledger.specs.Values.{standing_in};
 use assessment::account::Account;
 use assessment::units::{Cents, Kilowatts};
 use reading::block::{MOST_IDS, Terms};
-use words::{number64, store64};
+use words::{Word, store};
 
 const LEDGER_FORMAT: u64 = 1;
 
@@ -42,9 +43,20 @@ pub struct Standing {
     pub accounts: usize,
 }
 
-// Bytes of a ledger of so many accounts.
+// The accounts behind what stands before them, so many as it says.
+#[derive(Clone, Copy)]
+pub struct Accounts<'a> {
+    pub bytes: &'a [u8],
+    pub count: usize,
+    pub ghost counted: { count ≡ account_count bytes.now },
+    pub ghost few: { count ≤ most_ids },
+    pub ghost room: { ledger_bytes count ≤ length bytes.now },
+}
+
+// Bytes of a ledger of so many accounts, and so where the next account begins.
+#[tactic(auto, unfolding(crate::specs::Ledger::ledger_bytes))]
 pub fn ledger_bytes(accounts: usize) -> usize
-    requires { accounts ≤ most_ids }
+    requires { ledger_bytes accounts ≤ usize.MAX }
     ensures { result ≡ ledger_bytes accounts }
 {
     STANDING_BYTES + ACCOUNT_BYTES * accounts
@@ -57,10 +69,10 @@ pub fn not_laid_out(ledger: &[u8]) -> bool
     if ledger.len() < STANDING_BYTES {
         return true;
     }
-    if number64(ledger, 0) != LEDGER_FORMAT {
+    if u64::number(ledger, 0) != LEDGER_FORMAT {
         return true;
     }
-    number64(ledger, 48) != ACCOUNTS_OFFSET
+    u64::number(ledger, 48) != ACCOUNTS_OFFSET
 }
 
 // What stands before the accounts.
@@ -69,37 +81,40 @@ pub fn standing_of(ledger: &[u8]) -> Standing
     ensures { standing_in result ≡ standing_of ledger.now }
 {
     let terms = Terms {
-        net_cone: number64(ledger, 8),
-        days: number64(ledger, 16),
-        year: number64(ledger, 56),
+        net_cone: u64::number(ledger, 8),
+        days: u64::number(ledger, 16),
+        year: u64::number(ledger, 56),
     };
     Standing {
         terms,
-        earliest: number64(ledger, 24),
-        carried: Cents(number64(ledger, 32)),
-        accounts: number64(ledger, 40) as usize,
+        earliest: u64::number(ledger, 24),
+        carried: Cents(u64::number(ledger, 32)),
+        accounts: u64::number(ledger, 40) as usize,
     }
 }
 
-// The id of account j.
-pub fn account_id(ledger: &[u8], j: usize) -> u64
-    requires { ledger_bytes (j + 1) ≤ length ledger.now }
-    ensures { result ≡ (account_at (drop (ledger_bytes j) ledger.now)).id }
-{
-    number64(ledger, STANDING_BYTES + ACCOUNT_BYTES * j)
-}
+#[tactic(auto, unfolding(crate::specs::Ledger::ledger_bytes))]
+impl Accounts<'_> {
+    // The id of account j.
+    pub fn id(self, j: usize) -> u64
+        requires { j < self.count }
+        ensures { result ≡ (account_at (drop (ledger_bytes j) self.entry.bytes.now)).id }
+    {
+        u64::number(self.bytes, ledger_bytes(j))
+    }
 
-// Account j.
-pub fn account_at(ledger: &[u8], j: usize) -> Account
-    requires { ledger_bytes (j + 1) ≤ length ledger.now }
-    ensures { account_in result ≡ account_at (drop (ledger_bytes j) ledger.now) }
-{
-    let at = STANDING_BYTES + ACCOUNT_BYTES * j;
-    Account {
-        id: number64(ledger, at),
-        largest: Kilowatts(number64(ledger, at + 8)),
-        charged: Cents(number64(ledger, at + 16)),
-        credited: Cents(number64(ledger, at + 24)),
+    // Account j.
+    pub fn at(self, j: usize) -> Account
+        requires { j < self.count }
+        ensures { account_in result ≡ account_at (drop (ledger_bytes j) self.entry.bytes.now) }
+    {
+        let at = ledger_bytes(j);
+        Account {
+            id: u64::number(self.bytes, at),
+            largest: Kilowatts(u64::number(self.bytes, at + 8)),
+            charged: Cents(u64::number(self.bytes, at + 16)),
+            credited: Cents(u64::number(self.bytes, at + 24)),
+        }
     }
 }
 
@@ -119,15 +134,16 @@ pub fn write_standing(ledger: &mut [u8], s: Standing)
         ACCOUNTS_OFFSET,
         terms.year,
     ];
-    store64(&words, ledger);
+    store::<u64>(&words, ledger);
 }
 
 // Writes account j.
+#[tactic(auto, unfolding(crate::specs::Ledger::ledger_bytes))]
 pub fn write_account(ledger: &mut [u8], j: usize, a: Account)
     requires { ledger_bytes (j + 1) ≤ length ledger.old }
     ensures { ledger.new ≡ written_at (ledger_bytes j) (account_words (account_in a ∷ [])) ledger.old }
 {
     let words = [a.id, a.largest.0, a.charged.0, a.credited.0];
-    let at = STANDING_BYTES + ACCOUNT_BYTES * j;
-    store64(&words, &mut ledger[at..]);
+    let at = ledger_bytes(j);
+    store::<u64>(&words, &mut ledger[at..]);
 }

@@ -18,6 +18,7 @@ use reading::block::{
 };
 
 // The first of grounds 1, 2, 23, 3, 4 and 5 that applies, or 0.
+#[tactic(auto, using(crate::proofs::OpeningLaws::tests))]
 fn opening_ground(block: &[u8], ledger: &[u8]) -> u32
     ensures { result ≡ answered (opening_grounds block.now ledger.now) }
 {
@@ -52,10 +53,8 @@ fn write_accounts(block: &[u8], b: Block, ledger: &mut [u8])
         ≡ written_at ledger_header_bytes (account_words (map empty_account (block_of block.now).ids))
         ledger.old }
 {
-    let mut i = 0;
-    while i < b.ids {
+    for i in 0..b.ids {
         write_account(ledger, i, Account::empty(id_at(block, b, i)));
-        i += 1;
     }
 }
 

@@ -1,24 +1,17 @@
--- The laws of the first block and the later ones, and of the steps on an end.
-use Prim.Native.Nat.{ℕ, ◌+◌, ◌≤◌}
+-- The laws of the first block and the later ones, and of the steps of a listing.
+use Prim.Native.Nat.{ℕ}
 use mathlib.Core.Path.{◌≡◌, refl, sym, ap, ◌∙◌}
-use mathlib.Core.List.{List, []}
-use mathlib.Core.Bool.{true, false, cond}
-use native.Mathlib.Nat.{zero-add}
-use lib.ListN.{length}
+use mathlib.Core.List.{List, [], ◌++◌}
+use mathlib.Core.Bool.{Bool, true, false, cond}
 use lib.Dec.{eqb}
 use borrow.Author.Tests.{eq-eqb, ne_eqb}
-use Rattle.words.specs.Words.{placed_at}
-use Rattle.stream.specs.Stream.{End, Next, next_block, stops}
-use Rattle.stream.specs.Steps.{Steps, step}
-use Rattle.stream.specs.declared.Found.{Found}
-use Rattle.stream.specs.declared.Found.TheVariants.{OverLong}
-use Rattle.stream.specs.declared.Taken.{Taken}
-use Rattle.stream.specs.Code.{found_as, StepTaken}
-use Rattle.stream.proofs.StepLaws.{step_written, step_as, stop_at, found_block}
-use Rattle.listing.specs.Lines.{Line, bytes_of_line, bytes_of_lines}
-use Rattle.listing.specs.Npalist.{end_lines, over_long_ground}
+use Rattle.words.proofs.Ints.{never}
+use Rattle.stream.specs.Stream.{Next, stops}
+use Rattle.stream.specs.Steps.{Outcome, step}
+use Rattle.stream.specs.Code.{StepTaken}
+use Rattle.listing.specs.Npalist.{opening_listed, interval_listed, block_listed, listing_steps}
+use Rattle.listing.specs.Lines.{bytes_of_lines}
 use Rattle.listing.specs.Code.{in_bytes, stop_lines}
-use Rattle.listing.proofs.LineLaws.{one_line}
 
 -- the opening, block 0, has the first of two
 pub at_first : {A : Type 0} (number : ℕ) (a b : A) → number ≡ 0 → cond (eqb number 0) a b ≡ a
@@ -28,54 +21,35 @@ at_first number a b e = rw (eq-eqb number 0 e)
 pub at_later : {A : Type 0} (number : ℕ) (a b : A) → (number ≡ 0 → ⊥) → cond (eqb number 0) a b ≡ b
 at_later number a b e = rw (ne_eqb number 0 e)
 
--- what is written where a stream stops, by the code's answer in an arm of a match
-pub stop_line : (number : ℕ) (found variant : Found) (bytes before out : List ℕ) (end : ℕ) → found ≡ variant
-    → bytes ≡ bytes_of_lines (stop_lines number (found_as variant []))
-    → out ≡ placed_at 0 bytes before → end ≡ 0 + length bytes
-    → (out ≡ placed_at 0 (bytes_of_lines (stop_lines number (found_as found []))) before)
-    × (end ≡ length (bytes_of_lines (stop_lines number (found_as found []))))
-stop_line number found variant bytes before out end told same put ends =
-    let is = same ∙ ap (λ f. bytes_of_lines (stop_lines number (found_as f []))) (sym told) in
-    (put ∙ ap (λ b. placed_at 0 b before) is, ends ∙ zero-add (length bytes) ∙ ap length is)
+-- a step that put its bytes into an empty buffer, by another name of its outcome
+pub taken_as : {S : Type 0} (o m : Outcome ℕ S) (state : S) (before after : List ℕ) (on : Bool) → before ≡ [] → o ≡ m
+    → StepTaken m state before after on → StepTaken o state [] after on
+taken_as o m state before after on none same taken = rw (same, ← none) taken
 
--- the line of a length over the limit, by the ground that the code found
-pub refused_long : (number refusal : ℕ) → refusal ≡ over_long_ground number
-    → bytes_of_line (Line.refused number refusal) ≡ bytes_of_lines (stop_lines number (found_as OverLong []))
-unfolding found_as stop_lines end_lines
-refused_long number refusal e = ap (λ g. bytes_of_line (Line.refused number g)) e ∙ one_line _
+-- the step of a listing on the opening, once it is opened
+pub opening_taken : (number : ℕ) (l m block before out after : List ℕ) (on : Bool) → number ≡ 0 → m ≡ l → before ≡ []
+    → StepTaken (in_bytes (opening_listed m block)) after before out on
+    → StepTaken (in_bytes (step listing_steps number l (Next.block block []))) after [] out on
+unfolding step listing_steps block_listed
+opening_taken number l m block before out after on first same none taken =
+    taken_as _ _ after before out on none
+    (ap in_bytes (at_first number _ _ first ∙ ap (λ l. opening_listed l block) (sym same))) taken
 
--- a step p on what comes next in a stream s, by the code's answer
-module _ {S : Type 0} (p : Steps Line S) (number most : ℕ) (state : S) (s b : List ℕ) (found : Found)
-    (limit : most ≡ p.most number)
-    (next : next_block most s ≡ found_as found b) where
-  -- what comes next by the limit of the block's number
-  next_is : next_block (p.most number) s ≡ found_as found b
-  next_is = ap (λ m. next_block m s) (sym limit) ∙ next
+-- and on an interval block, once it is settled
+pub interval_taken : (number : ℕ) (l m block before out after : List ℕ) (on : Bool) → (number ≡ 0 → ⊥) → m ≡ l
+    → before ≡ []
+    → StepTaken (in_bytes (interval_listed number m block)) after before out on
+    → StepTaken (in_bytes (step listing_steps number l (Next.block block []))) after [] out on
+unfolding step listing_steps block_listed
+interval_taken number l m block before out after on later same none taken =
+    taken_as _ _ after before out on none
+    (ap in_bytes (at_later number _ _ later ∙ ap (λ l. interval_listed number l block) (sym same))) taken
 
-  -- where the stream stops, once its lines are written
-  pub stop_taken : stops (found_as found []) ≡ true → (lines : List Line)
-      → ((e : End) → found_as found [] ≡ Next.stop e → lines ≡ p.last number state e)
-      → (before out : List ℕ) (end : ℕ) → out ≡ placed_at 0 (bytes_of_lines lines) before
-      → end ≡ length (bytes_of_lines lines) → end ≤ length out
-      → StepTaken (in_bytes (step p number state (next_block (p.most number) s))) state before out
-      (record { end = end; on = false })
-  unfolding step in_bytes
-  stop_taken stop lines last before out end put ends fits =
-      let (e, at) = stop_at found stop in
-      step_as _ (in_bytes (step p number state (Next.stop e))) state before out _
-      (ap (λ n. in_bytes (step p number state n)) (next_is ∙ at b))
-      (step_written _ state _ before out end false refl (ap bytes_of_lines (last e (at []))) refl put (ends ∙ sym (zero-add _)) fits)
-
-  -- where a block is next, once it is opened or settled and its lines are written
-  pub block_taken : stops (found_as found []) ≡ false → (after : S) (before out : List ℕ) (t : Taken)
-      → StepTaken (in_bytes (p.block number state b)) after before out t
-      → StepTaken (in_bytes (step p number state (next_block (p.most number) s))) after before out t
-  unfolding step
-  block_taken block after before out t taken =
-      step_as _ _ after before out t (ap (λ n. in_bytes (step p number state n)) (next_is ∙ found_block found b block)) taken
-
--- the lines where a listing stops
-pub stop_lines_lem : (number : ℕ) (found : Found) (e : End) → found_as found [] ≡ Next.stop e
-    → stop_lines number (found_as found []) ≡ end_lines number e
-unfolding stop_lines
-stop_lines_lem number found e at = ap (stop_lines number) at
+-- and where the stream stops, once its line is put
+pub end_taken : (number : ℕ) (l before out : List ℕ) (next : Next) → stops next ≡ true → before ≡ []
+    → out ≡ before ++ bytes_of_lines (stop_lines number next)
+    → StepTaken (in_bytes (step listing_steps number l next)) l [] out false
+unfolding step listing_steps in_bytes stop_lines
+end_taken number l before out (Next.stop e) stop none put =
+    record { leaves = refl; puts = rw none at put; goes_on = refl }
+end_taken number l before out (Next.block bytes rest) stop none put = never (unfold stops in stop)

@@ -1,5 +1,6 @@
 -- What the code's answers mean.
-use Rattle.std.specs.Prelude.{ℕ, List, []}
+use Rattle.std.specs.Prelude.{ℕ, ◌+◌, ◌≤◌, ◌≡◌, List, [], ◌++◌}
+use Rattle.arrayvec.specs.ArrayVec.{ArrayVec, array_vec_len}
 use Rattle.stream.specs.Stream.{Next}
 use Rattle.stream.specs.Steps.{Outcome}
 use Rattle.listing.specs.Lines.{Line, YearLine, bytes_of_lines}
@@ -25,3 +26,8 @@ year_in y = record {
   credited = y.credited.0;
   limit = y.limit.0;
 }
+
+-- bytes put behind those that a buffer holds, where they take so much room at most
+pub record Puts (before : ArrayVec ℕ) (bytes : List ℕ) (room : ℕ) (after : ArrayVec ℕ) : Type 0 where
+  pub puts : after.items ≡ before.items ++ bytes
+  pub fits : array_vec_len after ≤ array_vec_len before + room

@@ -1,4 +1,5 @@
--- The room that each piece of a listing takes in a buffer, of which no sentence of document 01 speaks.
+-- The room that each piece of a listing takes in a buffer, and the most blocks, of which no sentence of document 01
+-- speaks.
 use Rattle.std.specs.Prelude.{ℕ, ◌+◌, ◌*◌}
 use Rattle.reading.specs.Interval.{most_rows}
 use Rattle.listing.specs.Lines.{most_digits}
@@ -34,3 +35,7 @@ year_room = 5 + 6 * field_room
 -- a block: the lines of the most rows, and the pool line
 abbrev pub block_room : ℕ
 block_room = most_rows * row_room + pool_room
+
+-- a loop that is proved has to end: no stream has so many blocks
+abbrev pub most_blocks : ℕ
+most_blocks = 1099511627776

@@ -4,5 +4,4 @@
 
 pub mod blocks;
 pub mod lines;
-pub mod number;
 pub mod steps;

@@ -1,20 +1,25 @@
-// The lines of a listing, each written into a buffer at a place. A function answers the place after what it wrote.
+// The lines of a listing, each put behind what a buffer holds.
 
 ghost use Rattle.std.specs.Prelude.{◌≡◌, ◌∷◌, [], ◌++◌, ◌+◌, ◌*◌, ◌≤◌, ◌<◌, length};
-ghost use Rattle.words.specs.Words.{words_in, placed_at};
+ghost use Rattle.arrayvec.specs.ArrayVec.{array_vec_len};
+ghost use Rattle.words.specs.Words.{words_in};
 ghost use Rattle.settling.specs.Settling.{result_header_bytes, result_row_bytes};
-ghost use Rattle.listing.specs.Lines.{text, decimal, field, line, heading, Line, bytes_of_line};
+ghost use Rattle.listing.specs.Lines.{decimal, line, heading, Line, bytes_of_line};
 ghost use Rattle.listing.specs.Npalist.{row_line, pool_line};
-ghost use Rattle.listing.specs.Code.{year_in};
+ghost use Rattle.listing.specs.Code.{Puts, year_in};
 ghost use Rattle.listing.specs.Room.{heading_room, field_room, refused_room, cut_room, row_room, pool_room, year_room};
 
-use crate::number::put_decimal;
+use arrayvec::ArrayVec;
 use assessment::units::{Cents, Kilowatts};
-use words::number64;
+use itoa::Buffer;
+use words::Word;
 
 // The heading, for every program that prints lines.
 pub const HEADING: [u8; 74] =
     *b"interval,id,expected,actual,outage,economic,shortfall,bonus,charge,credit\n";
+
+// The base of decimal numbers.
+const BASE: u64 = 10;
 
 // A number takes at most 20 digits and the byte after it; the line of a row has ten, a pool line five after its name.
 const FIELD_ROOM: usize = 21;
@@ -34,171 +39,140 @@ pub struct YearFigures {
     pub limit: Cents,
 }
 
-// Writes a byte.
-fn put_byte(out: &mut [u8], at: usize, byte: u8) -> usize
-    requires { at < length out.old }
-    ensures out_after { out.new ≡ placed_at at (byte ∷ []) out.old }
-    ensures value { result ≡ at + 1 }
+// Puts bytes as they are.
+pub fn put_text<const ROOM: usize>(out: &mut ArrayVec<u8, ROOM>, bytes: &[u8])
+    requires { array_vec_len out.old + length bytes.now ≤ ROOM }
+    ensures { out.new.items ≡ out.old.items ++ bytes.now }
 {
-    out[at] = byte;
-    at + 1
+    out.try_extend_from_slice(bytes).unwrap();
 }
 
-// Writes bytes as they are.
-pub fn put_text(out: &mut [u8], at: usize, bytes: &[u8]) -> usize
-    requires { at + length bytes.now ≤ length out.old }
-    ensures out_after { out.new ≡ placed_at at bytes.now out.old }
-    ensures value { result ≡ at + length bytes.now }
+// Puts the heading.
+#[tactic(auto, unfolding(crate::specs::Lines::heading, crate::specs::Lines::text))]
+pub fn put_heading<const ROOM: usize>(out: &mut ArrayVec<u8, ROOM>)
+    requires { array_vec_len out.old + heading_room ≤ ROOM }
+    ensures { Puts out.old heading heading_room out.new }
 {
-    let mut i = 0;
-    while i < bytes.len() {
-        out[at + i] = bytes[i];
-        i += 1;
+    put_text(out, &HEADING);
+}
+
+// Puts a number and one byte after it.
+#[inline(always)]
+pub fn put_number<const ROOM: usize>(out: &mut ArrayVec<u8, ROOM>, v: u64, after: u8)
+    requires { array_vec_len out.old + field_room ≤ ROOM }
+    ensures { Puts out.old (decimal v ++ after ∷ []) field_room out.new }
+{
+    // Most numbers of a listing are 0. A digit alone goes without the library's buffer: with it for each, npalist
+    // prints five million rows a second, and not six.
+    if v < BASE {
+        out.push(b'0' + v as u8);
+    } else {
+        let mut digits = Buffer::new();
+        put_text(out, digits.format(v).as_bytes());
     }
-    at + i
+    out.push(after);
 }
 
-// Writes the heading.
-pub fn put_heading(out: &mut [u8], at: usize) -> usize
-    requires { at + heading_room ≤ length out.old }
-    ensures out_after { out.new ≡ placed_at at heading out.old }
-    ensures value { result ≡ at + length heading }
-    ensures value_2 { result ≡ at + heading_room }
+// Puts numbers with commas between them, and a newline.
+pub fn put_line<const ROOM: usize>(out: &mut ArrayVec<u8, ROOM>, numbers: &[u64])
+    requires some_number { 0 < length numbers.now }
+    requires room { array_vec_len out.old + field_room * length numbers.now ≤ ROOM }
+    ensures { Puts out.old (line numbers.now) (field_room * length numbers.now) out.new }
 {
-    put_text(out, at, &HEADING)
-}
-
-// Writes a number and one byte after it.
-fn put_number(out: &mut [u8], at: usize, v: u64, byte: u8) -> usize
-    requires { at + field_room ≤ length out.old }
-    ensures out_after { out.new ≡ placed_at at (decimal v ++ (byte ∷ [])) out.old }
-    ensures value { result ≡ at + length (decimal v ++ (byte ∷ [])) }
-    ensures upper_bound { result ≤ at + field_room }
-{
-    let end = put_decimal(out, at, v);
-    put_byte(out, end, byte)
-}
-
-// Writes a number and a comma.
-pub fn put_field(out: &mut [u8], at: usize, v: u64) -> usize
-    requires { at + field_room ≤ length out.old }
-    ensures out_after { out.new ≡ placed_at at (field v) out.old }
-    ensures value { result ≡ at + length (field v) }
-    ensures upper_bound { result ≤ at + field_room }
-{
-    put_number(out, at, v, b',')
-}
-
-// Writes the last number of a line and a newline.
-pub fn put_last(out: &mut [u8], at: usize, v: u64) -> usize
-    requires { at + field_room ≤ length out.old }
-    ensures out_after { out.new ≡ placed_at at (line (v ∷ [])) out.old }
-    ensures value { result ≡ at + length (line (v ∷ [])) }
-    ensures upper_bound { result ≤ at + field_room }
-{
-    put_number(out, at, v, b'\n')
-}
-
-// Writes the line of a refused block.
-pub fn put_refused(out: &mut [u8], at: usize, block: u64, refusal: u64) -> usize
-    requires { at + refused_room ≤ length out.old }
-    ensures out_after { out.new ≡ placed_at at (bytes_of_line (Line.refused block refusal)) out.old }
-    ensures value { result ≡ at + length (bytes_of_line (Line.refused block refusal)) }
-    ensures upper_bound { result ≤ at + refused_room }
-{
-    let first = put_text(out, at, b"refused,");
-    let second = put_field(out, first, block);
-    put_last(out, second, refusal)
-}
-
-// Writes the line of a stream that is cut off.
-pub fn put_cut(out: &mut [u8], at: usize, block: u64) -> usize
-    requires { at + cut_room ≤ length out.old }
-    ensures out_after { out.new ≡ placed_at at (bytes_of_line (Line.cut block)) out.old }
-    ensures value { result ≡ at + length (bytes_of_line (Line.cut block)) }
-    ensures upper_bound { result ≤ at + cut_room }
-{
-    let first = put_text(out, at, b"cut,");
-    put_last(out, first, block)
-}
-
-// Writes the line of the first n words of a ledger, a result or a part of one.
-pub fn put_word_line(out: &mut [u8], at: usize, b: &[u8], n: usize) -> usize
-    requires n_nonzero { 0 < n }
-    requires n_in_bounds { 8 * n ≤ length b.now }
-    requires n_in_bounds_2 { at + field_room * n ≤ length out.old }
-    ensures out_after { out.new ≡ placed_at at (line (words_in n b.now)) out.old }
-    ensures value { result ≡ at + length (line (words_in n b.now)) }
-    ensures upper_bound { result ≤ at + field_room * n }
-{
-    let last = n - 1;
-    let mut to = at;
-    let mut i = 0;
-    while i < last {
-        to = put_field(out, to, number64(b, 8 * i));
-        i += 1;
+    let [front @ .., last] = numbers else {
+        return;
+    };
+    for v in front {
+        put_number(out, *v, b',');
     }
-    put_last(out, to, number64(b, 8 * i))
+    put_number(out, *last, b'\n');
 }
 
-// Writes the line of a row: interval, id and the row's eight words, which begin at the front of a part of a result.
-pub fn put_row_line(out: &mut [u8], at: usize, interval: u64, id: u64, row: &[u8]) -> usize
-    requires result_row_bytes_in_bounds { result_row_bytes ≤ length row.now }
-    requires row_room_in_bounds { at + row_room ≤ length out.old }
-    ensures out_after { out.new ≡ placed_at at (bytes_of_line (row_line interval id row.now)) out.old }
-    ensures value { result ≡ at + length (bytes_of_line (row_line interval id row.now)) }
-    ensures upper_bound { result ≤ at + row_room }
+// Puts the line of a refused block.
+#[tactic(auto, unfolding(crate::specs::Lines::bytes_of_line, crate::specs::Lines::text))]
+pub fn put_refused<const ROOM: usize>(out: &mut ArrayVec<u8, ROOM>, block: u64, refusal: u64)
+    requires { array_vec_len out.old + refused_room ≤ ROOM }
+    ensures { Puts out.old (bytes_of_line (Line.refused block refusal)) refused_room out.new }
 {
-    let first = put_field(out, at, interval);
-    let second = put_field(out, first, id);
-    put_word_line(out, second, row, 8)
+    put_text(out, b"refused,");
+    put_line(out, &[block, refusal]);
 }
 
-// Writes the pool line of an interval: interval, ratio, charges, credits, carried.
-pub fn put_pool_line(out: &mut [u8], at: usize, interval: u64, res: &[u8]) -> usize
-    requires result_header_bytes_in_bounds { result_header_bytes ≤ length res.now }
-    requires pool_room_in_bounds { at + pool_room ≤ length out.old }
-    ensures out_after { out.new ≡ placed_at at (bytes_of_line (pool_line interval res.now)) out.old }
-    ensures value { result ≡ at + length (bytes_of_line (pool_line interval res.now)) }
-    ensures upper_bound { result ≤ at + pool_room }
+// Puts the line of a stream that is cut off.
+#[tactic(auto, unfolding(crate::specs::Lines::bytes_of_line, crate::specs::Lines::text))]
+pub fn put_cut<const ROOM: usize>(out: &mut ArrayVec<u8, ROOM>, block: u64)
+    requires { array_vec_len out.old + cut_room ≤ ROOM }
+    ensures { Puts out.old (bytes_of_line (Line.cut block)) cut_room out.new }
 {
-    let first = put_text(out, at, b"pool,");
-    let second = put_field(out, first, interval);
-    put_word_line(out, second, res, 4)
+    put_text(out, b"cut,");
+    put_line(out, &[block]);
 }
 
-// Writes a plant's summed shortfall and bonus, each before a comma.
-fn put_kilowatts(out: &mut [u8], at: usize, shortfall: Kilowatts, bonus: Kilowatts) -> usize
-    requires { at + 2 * field_room ≤ length out.old }
-    ensures out_after { out.new ≡ placed_at at (field shortfall.0 ++ field bonus.0) out.old }
-    ensures value { result ≡ at + length (field shortfall.0 ++ field bonus.0) }
-    ensures upper_bound { result ≤ at + 2 * field_room }
+// The first words of a ledger, a result or a part of one.
+fn words_of<const WORDS: usize>(b: &[u8]) -> [u64; WORDS]
+    requires { 8 * WORDS ≤ length b.now }
+    ensures { result ≡ words_in WORDS b.now }
 {
-    let first = put_field(out, at, shortfall.0);
-    put_field(out, first, bonus.0)
+    let mut words = [0; WORDS];
+    for (k, word) in words.iter_mut().enumerate() {
+        *word = u64::number(b, 8 * k);
+    }
+    words
 }
 
-// Writes what a plant is charged and credited, and its limit, at the end of a line.
-fn put_cents(out: &mut [u8], at: usize, charged: Cents, credited: Cents, limit: Cents) -> usize
-    requires { at + 3 * field_room ≤ length out.old }
-    ensures out_after { out.new ≡ placed_at at (line (charged.0 ∷ credited.0 ∷ limit.0 ∷ [])) out.old }
-    ensures value { result ≡ at + length (line (charged.0 ∷ credited.0 ∷ limit.0 ∷ [])) }
-    ensures upper_bound { result ≤ at + 3 * field_room }
+// Puts the line of the first words of a ledger, a result or a part of one.
+pub fn put_word_line<const WORDS: usize, const ROOM: usize>(out: &mut ArrayVec<u8, ROOM>, b: &[u8])
+    requires some_word { 0 < WORDS }
+    requires words_in_bounds { 8 * WORDS ≤ length b.now }
+    requires room { array_vec_len out.old + field_room * WORDS ≤ ROOM }
+    ensures { Puts out.old (line (words_in WORDS b.now)) (field_room * WORDS) out.new }
 {
-    let first = put_field(out, at, charged.0);
-    let second = put_field(out, first, credited.0);
-    put_last(out, second, limit.0)
+    put_line(out, &words_of::<WORDS>(b));
 }
 
-// Writes the year line of a plant.
-pub fn put_year_line(out: &mut [u8], at: usize, y: YearFigures) -> usize
-    requires { at + year_room ≤ length out.old }
-    ensures out_after { out.new ≡ placed_at at (bytes_of_line (Line.year (year_in y))) out.old }
-    ensures value { result ≡ at + length (bytes_of_line (Line.year (year_in y))) }
-    ensures upper_bound { result ≤ at + year_room }
+// Puts the line of a row: interval, id and the row's eight words, which begin at the front of a part of a result.
+pub fn put_row_line<const ROOM: usize>(
+    out: &mut ArrayVec<u8, ROOM>,
+    interval: u64,
+    id: u64,
+    row: &[u8],
+)
+    requires row_in_bounds { result_row_bytes ≤ length row.now }
+    requires room { array_vec_len out.old + row_room ≤ ROOM }
+    ensures { Puts out.old (bytes_of_line (row_line interval id row.now)) row_room out.new }
 {
-    let first = put_text(out, at, b"year,");
-    let second = put_field(out, first, y.id);
-    let third = put_kilowatts(out, second, y.shortfall, y.bonus);
-    put_cents(out, third, y.charged, y.credited, y.limit)
+    put_number(out, interval, b',');
+    put_number(out, id, b',');
+    put_word_line::<8, ROOM>(out, row);
+}
+
+// Puts the pool line of an interval: interval, ratio, charges, credits, carried.
+pub fn put_pool_line<const ROOM: usize>(out: &mut ArrayVec<u8, ROOM>, interval: u64, res: &[u8])
+    requires header_in_bounds { result_header_bytes ≤ length res.now }
+    requires room { array_vec_len out.old + pool_room ≤ ROOM }
+    ensures { Puts out.old (bytes_of_line (pool_line interval res.now)) pool_room out.new }
+{
+    put_text(out, b"pool,");
+    put_number(out, interval, b',');
+    put_word_line::<4, ROOM>(out, res);
+}
+
+// Puts the year line of a plant. Kilowatts and cents are numbers from here on.
+#[tactic(auto, unfolding(crate::specs::Lines::bytes_of_line, crate::specs::Lines::text, crate::specs::Code::year_in))]
+pub fn put_year_line<const ROOM: usize>(out: &mut ArrayVec<u8, ROOM>, y: YearFigures)
+    requires { array_vec_len out.old + year_room ≤ ROOM }
+    ensures { Puts out.old (bytes_of_line (Line.year (year_in y))) year_room out.new }
+{
+    put_text(out, b"year,");
+    put_line(
+        out,
+        &[
+            y.id,
+            y.shortfall.0,
+            y.bonus.0,
+            y.charged.0,
+            y.credited.0,
+            y.limit.0,
+        ],
+    );
 }

@@ -1,28 +1,56 @@
-// The steps of npalist over a stream: a block, or the line of an end.
+// The steps of a program over a stream: on a block, or where the stream stops; and those of npalist.
 
-ghost use Rattle.std.specs.Prelude.{◌≡◌, ◌++◌, [], ◌≤◌, length};
-ghost use Rattle.words.specs.Words.{placed_at};
-ghost use Rattle.stream.specs.Stream.{length_bytes, End, bytes_due};
+ghost use Rattle.std.specs.Prelude.{◌≡◌, true, false, ◌++◌, [], ℕ, ◌+◌, ◌≤◌, ◌<◌, length};
+ghost use Rattle.arrayvec.specs.ArrayVec.{array_vec_len};
+ghost use Rattle.stream.specs.Stream.{length_bytes, End, Next, bytes_due, next_block, stops};
+ghost use Rattle.stream.specs.Steps.{Outcome, step};
 ghost use Rattle.stream.specs.Code.{found_as, StepTaken};
 ghost use Rattle.reading.specs.Interval.{most_file_bytes};
 ghost use Rattle.listing.specs.Lines.{bytes_of_lines};
-ghost use Rattle.listing.specs.Npalist.{most_bytes, over_long_ground, end_lines, next_listed};
-ghost use Rattle.listing.specs.Code.{in_bytes, stop_lines};
-ghost use Rattle.listing.specs.Room.{refused_room, cut_room, block_room};
+ghost use Rattle.listing.specs.Npalist.{ledger_buffer, most_bytes, over_long_ground, end_lines, listing_steps};
+ghost use Rattle.listing.specs.Code.{in_bytes, stop_lines, Puts};
+ghost use Rattle.listing.specs.Room.{refused_room, cut_room, most_blocks};
 
-use crate::blocks::list_block;
+use crate::blocks::{list_interval, list_opening};
 use crate::lines::{POOL_ROOM, ROW_ROOM, put_cut, put_refused};
+use arrayvec::ArrayVec;
 use ledger::layout::MOST_LEDGER_BYTES;
 use reading::block::MOST_BLOCK_BYTES;
 use reading::header::{MOST_FILE_BYTES, MOST_ROWS};
-use stream::{Found, Taken, next_block};
+use std::marker::Model;
+use stream::{Found, next_block};
 
-// The buffers of a listing: the longest block, a ledger of the most accounts, and the lines of the most rows.
+// The longest block, and the lines of the most rows.
 pub const BLOCK_BYTES: usize = MOST_FILE_BYTES;
 
-pub const LEDGER_BYTES: usize = MOST_LEDGER_BYTES;
-
 pub const LINES_BYTES: usize = MOST_ROWS * ROW_ROOM + POOL_ROOM;
+
+// A loop that is proved has to end, and nothing says that standard input does: no stream has so many blocks.
+pub const MOST_BLOCKS: u64 = 1099511627776;
+
+// What a program over a stream does at each block, by the block's number.
+pub trait Steps<const ROOM: usize> {
+    // what it prints on what comes next, what it leaves, and whether it goes on
+    ghost outcome: { ℕ → Self → Next → Outcome ℕ Self };
+
+    // what holds before the step of a block
+    ghost holds: { ℕ → Self → Type 0 };
+
+    // Takes the step on a block, and puts what it prints; answers whether to go on.
+    fn block(&mut self, number: u64, block: &[u8], out: &mut ArrayVec<u8, ROOM>) -> bool
+        requires few_blocks { number < most_blocks }
+        requires held { holds number self.old }
+        requires empty { out.old.items ≡ [] }
+        ensures taken { StepTaken (outcome number self.old (Next.block block.now [])) self.new [] out.new.items result }
+        ensures held_on { result ≡ true → holds (number + 1) self.new };
+
+    // Puts what is printed where the stream stops.
+    fn stop(&self, number: u64, found: Found, out: &mut ArrayVec<u8, ROOM>)
+        requires stopped { stops (found_as found []) ≡ true }
+        requires held { holds number self.now }
+        requires empty { out.old.items ≡ [] }
+        ensures { StepTaken (outcome number self.now (found_as found [])) self.now [] out.new.items false };
+}
 
 // The most bytes of a block.
 pub fn most_bytes(number: u64) -> usize
@@ -45,46 +73,96 @@ fn over_long_ground(number: u64) -> u64
     7
 }
 
-// Writes a cut if the stream ends before the opening, and nothing if it ends later.
-fn put_end(number: u64, out: &mut [u8]) -> usize
-    requires { cut_room ≤ length out.old }
-    ensures out_after { out.new ≡ placed_at 0 (bytes_of_lines (end_lines number End.ended)) out.old }
-    ensures value { result ≡ length (bytes_of_lines (end_lines number End.ended)) }
-    ensures upper_bound { result ≤ cut_room }
+// Puts a cut if the stream ends before the opening, and nothing if it ends later.
+fn put_end<const ROOM: usize>(number: u64, out: &mut ArrayVec<u8, ROOM>)
+    requires { array_vec_len out.old + cut_room ≤ ROOM }
+    ensures { Puts out.old (bytes_of_lines (end_lines number End.ended)) cut_room out.new }
 {
-    if number == 0 {
-        return put_cut(out, 0, 0);
+    if number != 0 {
+        return;
     }
-    0
+    put_cut(out, 0);
 }
 
-// Writes the line where a stream stops, if any, and nothing where a block is next.
-pub fn put_stop(number: u64, found: Found, out: &mut [u8]) -> usize
-    requires { refused_room ≤ length out.old }
-    ensures out_after { out.new ≡ placed_at 0 (bytes_of_lines (stop_lines number (found_as found []))) out.old }
-    ensures value { result ≡ length (bytes_of_lines (stop_lines number (found_as found []))) }
-    ensures upper_bound { result ≤ refused_room }
+// Puts the line where a stream stops, if any, and nothing where a block is next.
+pub fn put_stop<const ROOM: usize>(number: u64, found: Found, out: &mut ArrayVec<u8, ROOM>)
+    requires { array_vec_len out.old + refused_room ≤ ROOM }
+    ensures { Puts out.old (bytes_of_lines (stop_lines number (found_as found []))) refused_room out.new }
 {
     match found {
         Found::Ended => put_end(number, out),
-        Found::Cut => put_cut(out, 0, number),
-        Found::OverLong => put_refused(out, 0, number, over_long_ground(number)),
-        Found::Block => 0,
+        Found::Cut => put_cut(out, number),
+        Found::OverLong => put_refused(out, number, over_long_ground(number)),
+        Found::Block => {}
     }
 }
 
-// Takes the step on what was read of a length and of the bytes due after it.
-pub fn list_next(number: u64, ledger: &mut [u8], head: &[u8], block: &[u8], out: &mut [u8]) -> Taken
+// Takes the step on what was read of a length and of the bytes due after it; answers whether to go on.
+pub fn take_step<const ROOM: usize, S: Steps<ROOM>>(
+    steps: &mut S,
+    number: u64,
+    head: &[u8],
+    block: &[u8],
+    out: &mut ArrayVec<u8, ROOM>,
+) -> bool
+    requires few_blocks { number < most_blocks }
     requires head_in_bounds { length head.now ≤ length_bytes }
-    requires block_len_bound { length block.now ≤ bytes_due (most_bytes number) head.now }
-    requires block_room_in_bounds { block_room ≤ length out.old }
-    ensures { StepTaken (in_bytes (next_listed number ledger.old (head.now ++ block.now)))
-        ledger.new out.old out.new result }
+    requires block_in_bounds { length block.now ≤ bytes_due (most_bytes number) head.now }
+    requires held { S.holds number steps.old }
+    requires empty { out.old.items ≡ [] }
+    ensures taken { StepTaken (S.outcome number steps.old (next_block (most_bytes number) (head.now ++ block.now)))
+        steps.new [] out.new.items result }
+    ensures held_on { result ≡ true → S.holds (number + 1) steps.new }
 {
     let found = next_block(most_bytes(number), head, block);
     if found.stops() {
-        let end = put_stop(number, found, out);
-        return Taken { end, on: false };
+        steps.stop(number, found, out);
+        return false;
     }
-    list_block(number, ledger, block, out)
+    steps.block(number, block, out)
+}
+
+// A listing, whose state is the ledger.
+#[derive(Drop)]
+pub struct Listing {
+    ledger: [u8; MOST_LEDGER_BYTES],
+}
+
+impl Model for Listing {
+    ghost use Rattle.std.specs.Prelude.{List, ℕ};
+
+    ghost Value = { List ℕ };
+
+    ghost view = { λ l. l.ledger };
+}
+
+impl Listing {
+    // Before any block.
+    pub fn new() -> Listing
+        ensures { result ≡ ledger_buffer }
+    {
+        Listing {
+            ledger: [0; MOST_LEDGER_BYTES],
+        }
+    }
+}
+
+impl Steps<LINES_BYTES> for Listing {
+    ghost outcome = { λ number ledger next. in_bytes (step listing_steps number ledger next) };
+
+    ghost holds = { λ number ledger. Unit {0} };
+
+    // Opens or settles a block. The number says which, as in the definition: two programs over one stream, one for the
+    // opening and one for what follows, would not be plainer.
+    fn block(&mut self, number: u64, block: &[u8], out: &mut ArrayVec<u8, LINES_BYTES>) -> bool {
+        if number != 0 {
+            list_interval(number, &mut self.ledger, block, out);
+            return true;
+        }
+        list_opening(&mut self.ledger, block, out)
+    }
+
+    fn stop(&self, number: u64, found: Found, out: &mut ArrayVec<u8, LINES_BYTES>) {
+        put_stop(number, found, out);
+    }
 }

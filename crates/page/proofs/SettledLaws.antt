@@ -1,20 +1,18 @@
 -- The laws of an interval on a page: its refusal, no line, or the plant's line with its figures.
 use Prim.Native.Nat.{ℕ, ◌+◌, ◌*◌, ◌≤◌, ◌<◌}
 use mathlib.Core.Path.{◌≡◌, refl, sym, ap, ap₂, ◌∙◌, subst}
-use mathlib.Core.List.{List, [], ◌∷◌, append-nil, Memᴰ}
+use mathlib.Core.List.{List, [], ◌∷◌, ◌++◌, append-nil, Memᴰ}
 use mathlib.Core.Bool.{true}
 use native.Mathlib.Omega.{arith}
 use lib.ListN.{length, drop}
 use lib.Seq.{drop-drop}
 use borrow.Author.Tests.{eq-eqb, ne_eqb}
 use Rattle.words.specs.Lists.{sum}
-use Rattle.words.specs.Words.{word64, placed_at}
-use Rattle.words.proofs.Placing.{place_none}
+use Rattle.words.specs.Words.{word64}
 use Rattle.stream.specs.Steps.{Outcome}
 use Rattle.stream.specs.Code.{StepTaken}
-use Rattle.stream.proofs.StepLaws.{step_written}
 use Rattle.reading.specs.Interval.{most_kilowatts, header_of, rows_of}
-use Rattle.assessment.specs.Values.{most_actual}
+use Rattle.assessment.specs.Assessment.{most_actual}
 use Rattle.ledger.specs.Values.{before}
 use Rattle.settling.specs.Settling.{result_header_bytes, result_row_bytes, result_bytes, SettlingAnswer, settling}
 use Rattle.settling.proofs.Accepted.{accepted, settling_none}
@@ -26,10 +24,9 @@ use Rattle.listing.specs.Npalist.{row_line, file_lines, pool_line, interval_line
 use Rattle.listing.specs.Code.{in_bytes}
 use Rattle.listing.proofs.LineLaws.{one_line}
 use Rattle.page.specs.Page.{on_page, chosen, figure_on, summed}
-use Rattle.page.specs.Steps.{page_outcome}
-use Rattle.page.specs.Code.{state_in, PageFits, RowPaged}
+use Rattle.page.specs.Steps.{PageState, page_outcome}
+use Rattle.page.specs.Code.{state_in, YearLedger, PageFits, RowPaged, Paged, PageMayGoOn}
 use Rattle.page.specs.declared.lines.Page.{Page as PageValue}
-use Rattle.page.specs.declared.steps.PageStep.{PageStep as PageStepValue}
 use Rattle.page.proofs.RowLaws.{row_ids, no_line, one_line as own_line, one_given}
 use Rattle.page.proofs.StepLaws.{chosen_append}
 
@@ -54,11 +51,12 @@ balance_in l file r result id i none is at low =
     let place = ap (λ k. drop (result_row_bytes * k) (drop result_header_bytes result)) (sym at) ∙ row_place i result in
     (omega (arith, bounds.0, short, ap (λ b. word64 b 4) place), omega (arith, bounds.1, extra, ap (λ b. word64 b 5) place))
 
--- an interval block that has been settled into a ledger l, with a result r of zeros, and answered with a ground,
+-- an interval block that has been settled into a ledger l, with a result of zeros, and answered with a ground,
 -- on the page of p
-module _ (number refusal : ℕ) (l file r after result : List ℕ) (zeros : r ≡ result_buffer)
-    (g : refusal ≡ (settling l file r).refusal)
-    (e : after ≡ (settling l file r).ledger) (is : result ≡ (settling l file r).result) (p : PageValue) where
+module _ (number refusal : ℕ) (l file after result : List ℕ)
+    (g : refusal ≡ (settling l file result_buffer).refusal)
+    (e : after ≡ (settling l file result_buffer).ledger) (is : result ≡ (settling l file result_buffer).result)
+    (p : PageValue) where
   -- the call as it is defined
   abbrev answer : SettlingAnswer
   answer = settling l file result_buffer
@@ -67,40 +65,33 @@ module _ (number refusal : ℕ) (l file r after result : List ℕ) (zeros : r �
   abbrev o : Outcome Line (List ℕ)
   o = interval_listed number l file
 
-  -- the ground answered is that of the call on the result of zeros
-  same : refusal ≡ answer.refusal
-  same = g ∙ ap (λ b. (settling l file b).refusal) zeros
-
-  -- the step, once the lines of the page are written and their figures added
+  -- the step, once the lines of the page are put and their figures added
   paged : (lines : List Line) (q : PageValue) → chosen p.id o.printed ≡ lines
       → q.shortfall.0 ≡ p.shortfall.0 + summed (λ r. r.shortfall) lines
-      → q.bonus.0 ≡ p.bonus.0 + summed (λ r. r.bonus) lines → (bytes before out : List ℕ) (end : ℕ)
-      → bytes ≡ bytes_of_lines lines
-      → out ≡ placed_at 0 bytes before → end ≡ 0 + length bytes → end ≤ length out
-      → StepTaken (in_bytes (page_outcome p.id (state_in l p) o)) (state_in after q) before out
-      (record { end = end; on = true })
+      → q.bonus.0 ≡ p.bonus.0 + summed (λ r. r.bonus) lines → (before out : List ℕ)
+      → out ≡ before ++ bytes_of_lines lines
+      → StepTaken (in_bytes (page_outcome p.id (state_in l p) o)) (state_in after q) before out true
   unfolding page_outcome state_in in_bytes interval_listed
-  paged lines q own short extra bytes before out end printed put ends fits =
-      let left : after ≡ answer.ledger = e ∙ ap (λ b. (settling l file b).ledger) zeros in
+  paged lines q own short extra before out put =
       let shortfall = short ∙ ap (λ ls. p.shortfall.0 + summed (λ r. r.shortfall) ls) (sym own) in
       let bonus = extra ∙ ap (λ ls. p.bonus.0 + summed (λ r. r.bonus) ls) (sym own) in
-      step_written (in_bytes (page_outcome p.id (state_in l p) o)) (state_in after q) bytes before out end true
-      (λ i. record { ledger = left i; shortfall = shortfall i; bonus = bonus i })
-      (printed ∙ ap bytes_of_lines (sym own)) refl put ends fits
+      record {
+        leaves = λ i. record { ledger = e i; shortfall = shortfall i; bonus = bonus i };
+        puts = put ∙ ap (λ ls. before ++ bytes_of_lines ls) (sym own);
+        goes_on = refl;
+      }
 
   -- a refused interval: its line stands on every page, and adds nothing
-  pub refused_paged : (before out : List ℕ) (end : ℕ) → (refusal ≡ 0 → ⊥)
-      → out ≡ placed_at 0 (bytes_of_line (Line.refused number refusal)) before
-      → end ≡ 0 + length (bytes_of_line (Line.refused number refusal)) → end ≤ length out
-      → StepTaken (in_bytes (page_outcome p.id (state_in l p) o)) (state_in after p) before out
-      (record { end = end; on = true })
+  pub refused_paged : (before out : List ℕ) → (refusal ≡ 0 → ⊥)
+      → out ≡ before ++ bytes_of_line (Line.refused number refusal)
+      → StepTaken (in_bytes (page_outcome p.id (state_in l p) o)) (state_in after p) before out true
   unfolding interval_listed interval_lines chosen on_page summed sum figure_on
-  refused_paged before out end some put ends fits =
-      let off = ne_eqb answer.refusal 0 (λ none. some (same ∙ none)) in
+  refused_paged before out some put =
+      let off = ne_eqb answer.refusal 0 (λ none. some (g ∙ none)) in
       let own : chosen p.id o.printed ≡ Line.refused number refusal ∷ [] =
-      rw off (ap (λ g. Line.refused number g ∷ []) (sym same)) in
-      paged (Line.refused number refusal ∷ []) p own (omega arith) (omega arith) _ before out end
-      (one_line _) put ends fits
+      rw off (ap (λ g. Line.refused number g ∷ []) (sym g)) in
+      paged (Line.refused number refusal ∷ []) p own (omega arith) (omega arith) before out
+      (put ∙ ap (λ b. before ++ b) (one_line _))
 
   -- an accepted one
   module _ (none : refusal ≡ 0) where
@@ -108,45 +99,60 @@ module _ (number refusal : ℕ) (l file r after result : List ℕ) (zeros : r �
     rows_chosen : chosen p.id o.printed ≡ chosen p.id (file_lines file result)
     unfolding interval_listed interval_lines chosen on_page pool_line
     rows_chosen =
-        let final : answer.result ≡ result = sym (is ∙ ap (λ b. (settling l file b).result) zeros) in
-        rw (eq-eqb answer.refusal 0 (sym same ∙ none))
+        rw (eq-eqb answer.refusal 0 (sym g ∙ none))
         (chosen_append p.id (file_lines file answer.result) (pool_line (header_of file).interval answer.result ∷ [])
         ∙ append-nil (chosen p.id (file_lines file answer.result))
-        ∙ ap (λ b. chosen p.id (file_lines file b)) final)
+        ∙ ap (λ b. chosen p.id (file_lines file b)) (sym is))
 
     -- where the plant has no row, nothing is printed
     pub none_paged : (out : List ℕ) → length (rows_of file) ≤ before p.id (row_ids (rows_of file))
-        → StepTaken (in_bytes (page_outcome p.id (state_in l p) o)) (state_in after p) out out
-        (record { end = 0; on = true })
+        → StepTaken (in_bytes (page_outcome p.id (state_in l p) o)) (state_in after p) out out true
     unfolding summed sum bytes_of_lines
     none_paged out past =
         paged [] p (rows_chosen ∙ no_line _ p.id (rows_of file) (drop result_header_bytes result) past) (omega arith)
-        (omega arith)
-        [] out out 0 refl (sym (place_none 0 out)) refl (omega arith)
+        (omega arith) out out (sym (append-nil out))
 
     -- where row i is the plant's, its line is printed and its figures are added
-    pub row_paged : (i interval : ℕ) (from out : List ℕ) (t : PageStepValue) → i ≡ before p.id (row_ids (rows_of file))
+    pub row_paged : (i interval : ℕ) (from out : List ℕ) (q : PageValue) → i ≡ before p.id (row_ids (rows_of file))
         → i < length (rows_of file)
-        → interval ≡ (header_of file).interval → RowPaged p interval (drop (result_bytes i) result) from out t
-        → StepTaken (in_bytes (page_outcome p.id (state_in l p) o)) (state_in after t.page) from out t.taken
+        → interval ≡ (header_of file).interval → RowPaged p interval (drop (result_bytes i) result) from out q
+        → StepTaken (in_bytes (page_outcome p.id (state_in l p) o)) (state_in after q) from out true
     unfolding summed sum figure_on row_line
-    row_paged i interval from out t at low word row =
+    row_paged i interval from out q at low word row =
         let part = drop (result_bytes i) result in
-        let up = (accepted l file r (sym g ∙ none)).ids_rise in
+        let up = (accepted l file result_buffer (sym g ∙ none)).ids_rise in
         let place = ap (λ k. drop (result_row_bytes * k) (drop result_header_bytes result)) (sym at) ∙ row_place i result in
         let own : chosen p.id o.printed ≡ row_line interval p.id part ∷ [] =
         rows_chosen ∙ own_line (header_of file).interval p.id (rows_of file) (drop result_header_bytes result) up
         (omega arith)
         ∙ ap₂ (λ w b. row_line w p.id b ∷ []) (sym word) place
         in
-        subst (λ on. StepTaken (in_bytes (page_outcome p.id (state_in l p) o)) (state_in after t.page) from out (record { end = t.taken.end; on = on }))
-        (sym row.goes_on)
-        (paged (row_line interval p.id part ∷ []) t.page own (omega (arith, row.shortfall)) (omega (arith, row.bonus)) _ from out t.taken.end
-        (one_line _) row.puts row.ends row.fits)
+        paged (row_line interval p.id part ∷ []) q own (omega (arith, row.shortfall)) (omega (arith, row.bonus)) from out
+        (row.puts ∙ ap (λ b. from ++ b) (one_line _))
 
 -- a page has at most one row of a block
-pub page_more : (number : ℕ) (p q : PageValue) → PageFits number p → q.shortfall.0 ≤ p.shortfall.0 + most_kilowatts
-    → q.bonus.0 ≤ p.bonus.0 + most_actual
-    → PageFits (number + 1) q
-page_more number p q fits short extra =
+pub page_more : (number : ℕ) (s t : PageState) → PageFits number s → t.shortfall ≤ s.shortfall + most_kilowatts
+    → t.bonus ≤ s.bonus + most_actual → PageFits (number + 1) t
+page_more number s t fits short extra =
     record { shortfall = omega (arith, fits.shortfall); bonus = omega (arith, fits.bonus) }
+
+-- what holds of a page before the step of a block is so of the fields that it is made of
+module _ (number : ℕ) (p : Paged) (m : PageValue) (l : List ℕ) (view : record { id = m.id; state = state_in l m } ≡ p)
+    (held : PageMayGoOn number p) where
+  -- its sums fit
+  pub fields_fit : PageFits number (state_in l m)
+  fields_fit = subst (λ p. PageFits number p.state) (sym view) held.fits
+
+  -- and after the opening its ledger is one of a year
+  pub fields_year : (number ≡ 0 → ⊥) → YearLedger l
+  unfolding state_in
+  fields_year later = subst (λ p. YearLedger p.state.ledger) (sym view) (held.year (omega arith))
+
+  -- once it is opened the page may go on
+  pub opened_held : (after : List ℕ) → YearLedger after
+      → PageMayGoOn (number + 1) (record { id = m.id; state = state_in after m })
+  unfolding state_in
+  opened_held after year = record {
+    fits = page_more number (state_in l m) (state_in after m) fields_fit (omega arith) (omega arith);
+    year = λ later. year;
+  }

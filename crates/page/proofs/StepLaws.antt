@@ -1,21 +1,19 @@
 -- The laws of the page's steps: the id word, the opening, an interval, and the end.
 use Prim.Native.Nat.{ℕ, ◌+◌, ◌≤◌, ◌<◌}
-use mathlib.Core.Path.{◌≡◌, refl, sym, ap, ap₂, ◌∙◌}
-use mathlib.Core.List.{List, [], ◌∷◌, ◌++◌, map}
+use mathlib.Core.Path.{◌≡◌, refl, sym, ap, ap₂, ◌∙◌, subst}
+use mathlib.Core.List.{List, [], ◌∷◌, ◌++◌, map, append-nil}
 use mathlib.Core.Bool.{Bool, true, false, not, cond, ◌&&◌}
 use native.Mathlib.Nat.{zero-add}
 use native.Mathlib.Omega.{arith}
 use lib.ListN.{length}
 use lib.Dec.{eqb}
-use borrow.Author.Tests.{eqb-true, ne_eqb, lt-ltb, le-ltb}
+use borrow.Author.Tests.{eqb-true, eq-eqb, ne_eqb, lt-ltb, le-ltb}
 use Rattle.words.specs.Lists.{sum, any}
-use Rattle.words.specs.Words.{Bytes, number, number_at, placed_at}
-use Rattle.words.proofs.Placing.{place_none, then_place}
-use Rattle.stream.specs.Stream.{End}
-use Rattle.stream.specs.Steps.{Outcome}
+use Rattle.words.specs.Words.{Bytes, number, number_at}
+use Rattle.words.proofs.Ints.{never}
+use Rattle.stream.specs.Stream.{End, Next, stops}
+use Rattle.stream.specs.Steps.{Outcome, step}
 use Rattle.stream.specs.Code.{StepTaken}
-use Rattle.stream.specs.declared.Taken.{Taken}
-use Rattle.stream.proofs.StepLaws.{step_written, step_as}
 use Rattle.assessment.specs.Assessment.{account_of, limit}
 use Rattle.assessment.specs.Values.{account_in}
 use Rattle.assessment.specs.declared.account.Account.{Account as AccountValue}
@@ -27,7 +25,7 @@ use Rattle.year.specs.Year.{new_year, after_calls, account_by_rows}
 use Rattle.year.proofs.Claims.{kept}
 use Rattle.listing.specs.Lines.{RowLine, Line, bytes_of_line, bytes_of_lines}
 use Rattle.listing.specs.Npalist.{opening_listed, interval_listed, end_lines}
-use Rattle.listing.specs.Code.{in_bytes, year_in}
+use Rattle.listing.specs.Code.{in_bytes, stop_lines, year_in}
 use Rattle.listing.proofs.LineLaws.{one_line, lines_append}
 use Rattle.page.specs.Page.{id_word_bytes, outside_roster, on_page, chosen, figure_on, summed, year_of, on_roster}
 use Rattle.page.specs.Steps.{
@@ -40,7 +38,9 @@ use Rattle.page.specs.Steps.{
   page_block,
   year_lines,
   page_end,
+  page_steps,
 }
+use Rattle.page.specs.Code.{state_in, Paged, plant_step, PageFits}
 use Rattle.page.specs.declared.lines.Page.{Page as PageValue}
 
 -- what the code's figures of a year say, by the account found and the limit of its largest commitment
@@ -61,26 +61,20 @@ year_says b p a t most terms own is =
     }
 
 -- the step on an id word that is cut
-pub id_cut : (word before out : List ℕ) (end : ℕ) → length word < id_word_bytes
-    → out ≡ placed_at 0 (bytes_of_line (Line.cut 0)) before
-    → end ≡ 0 + length (bytes_of_line (Line.cut 0)) → end ≤ length out
-    → StepTaken (in_bytes (id_outcome word)) 0 before out (record { end = end; on = false })
+pub id_cut : (word before out : List ℕ) → length word < id_word_bytes → out ≡ before ++ bytes_of_line (Line.cut 0)
+    → StepTaken (in_bytes (id_outcome word)) 0 before out false
 unfolding id_outcome in_bytes
-id_cut word before out end short put ends fits =
-    let cut = lt-ltb (length word) id_word_bytes short in
-    step_as _ _ 0 before out _
-    (ap (λ t. in_bytes (cond t (record { printed = Line.cut 0 ∷ []; state = 0; on = false }) (record { printed = []; state = number id_word_bytes word; on = true }))) cut)
-    (step_written _ 0 _ before out end false refl (one_line (Line.cut 0)) refl put ends fits)
+id_cut word before out short put =
+    rw (lt-ltb (length word) id_word_bytes short)
+    (record { leaves = refl; puts = put ∙ ap (λ b. before ++ b) (one_line (Line.cut 0)); goes_on = refl })
 
 -- the step on a whole one
 pub id_whole : (word out : List ℕ) (id : ℕ) → id_word_bytes ≤ length word → id ≡ number_at id_word_bytes word 0
-    → StepTaken (in_bytes (id_outcome word)) id out out (record { end = 0; on = true })
+    → StepTaken (in_bytes (id_outcome word)) id out out true
 unfolding id_outcome in_bytes bytes_of_lines number_at
 id_whole word out id long is =
-    let whole = le-ltb (length word) id_word_bytes long in
-    step_as _ _ id out out _
-    (ap (λ t. in_bytes (cond t (record { printed = Line.cut 0 ∷ []; state = 0; on = false }) (record { printed = []; state = number id_word_bytes word; on = true }))) whole)
-    (step_written _ id [] out out 0 true is refl refl (sym (place_none 0 out)) refl (omega arith))
+    rw (le-ltb (length word) id_word_bytes long)
+    (record { leaves = is; puts = sym (append-nil out); goes_on = refl })
 
 -- the lines of some and of others that stand on a page
 pub chosen_append : (id : ℕ) (xs ys : List Line) → chosen id (xs ++ ys) ≡ chosen id xs ++ chosen id ys
@@ -134,14 +128,17 @@ module _ (l block : List ℕ) where
       }
 
   -- the page goes on, or stops, as the listing does, where no id is looked for in vain
-  opening_paged : (id : ℕ) (after before out : List ℕ) (t : Taken) → (o.on && not (on_roster id block)) ≡ false
-      → StepTaken (in_bytes o) after before out t
-      → StepTaken (in_bytes (page_opening id (no_lines l) block)) (no_lines after) before out t
+  opening_paged : (id : ℕ) (after before out : List ℕ) (on : Bool) → (o.on && not (on_roster id block)) ≡ false
+      → StepTaken (in_bytes o) after before out on
+      → StepTaken (in_bytes (page_opening id (no_lines l) block)) (no_lines after) before out on
   unfolding page_opening in_bytes no_lines
-  opening_paged id after before out t known taken =
-      step_as (in_bytes (page_opening id (no_lines l) block)) (in_bytes (record { printed = o.printed; state = no_lines o.state; on = o.on })) (no_lines after) before out t
-      (ap (λ u. in_bytes (cond u (outside_outcome (no_lines l) o) (page_outcome id (no_lines l) o))) known ∙ ap in_bytes (opening_state id))
-      (record { leaves = ap no_lines taken.leaves; puts = taken.puts; ends = taken.ends; goes_on = taken.goes_on; fits = taken.fits })
+  opening_paged id after before out on known taken =
+      let same = ap (λ u. cond u (outside_outcome (no_lines l) o) (page_outcome id (no_lines l) o)) known ∙ opening_state id in
+      record {
+        leaves = ap no_lines taken.leaves ∙ ap (λ o. o.state) (sym same);
+        puts = taken.puts ∙ ap (λ o. before ++ bytes_of_lines o.printed) (sym same);
+        goes_on = taken.goes_on ∙ ap (λ o. o.on) (sym same);
+      }
 
   -- it leaves the ledger that opening leaves
   pub opening_leaves : o.state ≡ (opening block l).ledger
@@ -160,23 +157,27 @@ module _ (l block : List ℕ) where
     unfolding opening_listed
     opened_silent = ap (λ t. cond t [] (Line.refused 0 (opening block l).refusal ∷ [])) on
 
+    -- which leaves what the buffer held
+    pub opened_same : (after before mid : List ℕ) (on : Bool) → StepTaken (in_bytes o) after before mid on → mid ≡ before
+    unfolding in_bytes bytes_of_lines
+    opened_same after before mid on taken =
+        taken.puts ∙ ap (λ ls. before ++ bytes_of_lines ls) opened_silent ∙ append-nil before
+
     -- an id outside its roster ends the page with its refusal
-    outside_paged : (id : ℕ) (after before mid out : List ℕ) (t : Taken) (end : ℕ) → on_roster id block ≡ false
-        → StepTaken (in_bytes o) after before mid t
-        → out ≡ placed_at 0 (bytes_of_line (Line.refused 0 outside_roster)) mid
-        → end ≡ 0 + length (bytes_of_line (Line.refused 0 outside_roster)) → end ≤ length out
-        → StepTaken (in_bytes (page_opening id (no_lines l) block)) (no_lines after) before out
-        (record { end = end; on = false })
-    unfolding page_opening outside_outcome in_bytes no_lines bytes_of_lines
-    outside_paged id after before mid out t end none taken put ends fits =
+    outside_paged : (id : ℕ) (after before mid out : List ℕ) (on : Bool) → on_roster id block ≡ false
+        → StepTaken (in_bytes o) after before mid on
+        → out ≡ mid ++ bytes_of_line (Line.refused 0 outside_roster)
+        → StepTaken (in_bytes (page_opening id (no_lines l) block)) (no_lines after) before out false
+    unfolding page_opening outside_outcome in_bytes no_lines
+    outside_paged id after before mid out t none taken put =
         let foreign : (o.on && not (on_roster id block)) ≡ true = rw (on, none) in
-        let untouched : mid ≡ before = taken.puts ∙ ap (λ ls. placed_at 0 (bytes_of_lines ls) before) opened_silent
-        ∙ place_none 0 before in
-        step_as (in_bytes (page_opening id (no_lines l) block)) (in_bytes (outside_outcome (no_lines l) o))
-        (no_lines after) before out _
-        (ap (λ u. in_bytes (cond u (outside_outcome (no_lines l) o) (page_outcome id (no_lines l) o))) foreign)
-        (step_written (in_bytes (outside_outcome (no_lines l) o)) (no_lines after) _ before out end false (ap no_lines taken.leaves) (one_line _) refl
-        (put ∙ ap (placed_at 0 _) untouched) ends fits)
+        let same = ap (λ u. cond u (outside_outcome (no_lines l) o) (page_outcome id (no_lines l) o)) foreign in
+        record {
+          leaves = ap no_lines taken.leaves ∙ ap (λ o. o.state) (sym same);
+          puts = put ∙ ap₂ (λ b c. b ++ c) (opened_same after before mid t taken) (one_line (Line.refused 0 outside_roster))
+              ∙ ap (λ o. before ++ bytes_of_lines o.printed) (sym same);
+          goes_on = ap (λ o. o.on) (sym same);
+        }
 
     -- leaves a ledger that ground 6 does not refuse, where the block is one of bytes
     opened_holds : Bytes block → not_a_ledger (opening block l).ledger ≡ false
@@ -203,24 +204,28 @@ known_second true known is = rw is
 known_second false known is = refl
 
 -- where a listing took a block to open
-module _ (l block after before out : List ℕ) (t : Taken) (taken : StepTaken (in_bytes (opening_listed l block)) after before out t) where
+module _ (l block after before out : List ℕ) (t : Bool) (taken : StepTaken (in_bytes (opening_listed l block)) after before out t) where
   -- it goes on just where the opening is accepted
-  pub went_on : (on : Bool) → t.on ≡ on → (opening_listed l block).on ≡ on
+  pub went_on : (on : Bool) → t ≡ on → (opening_listed l block).on ≡ on
   unfolding in_bytes
   went_on on e = sym taken.goes_on ∙ e
 
   -- where it is not, the page stops too
-  pub stopped_paged : (id : ℕ) → t.on ≡ false
+  pub stopped_paged : (id : ℕ) → t ≡ false
       → StepTaken (in_bytes (page_opening id (no_lines l) block)) (no_lines after) before out t
   stopped_paged id off = opening_paged l block id after before out t
       (known_first (opening_listed l block).on (on_roster id block) (went_on false off)) taken
 
   -- where it is, and the block is one of bytes
-  module _ (on : t.on ≡ true) (bytes : Bytes block) where
+  module _ (on : t ≡ true) (bytes : Bytes block) where
     -- the ledger is one that ground 6 does not refuse
     pub accepted_holds : not_a_ledger after ≡ false
     unfolding in_bytes opening_listed
     accepted_holds = ap not_a_ledger taken.leaves ∙ opened_holds l block (went_on true on) bytes
+
+    -- nothing is printed
+    pub accepted_same : out ≡ before
+    accepted_same = opened_same l block (went_on true on) after before out t taken
 
     -- its ids are the roster
     roster_is : (id : ℕ) → on_roster id block ≡ any (λ i. eqb i id) (ids_in (ledger_of after))
@@ -236,31 +241,10 @@ module _ (l block after before out : List ℕ) (t : Taken) (taken : StepTaken (i
 
     -- with another it ends with the refusal
     pub foreign_paged : (id : ℕ) (has : Bool) → has ≡ any (λ i. eqb i id) (ids_in (ledger_of after)) → has ≡ false
-        → (last : List ℕ) (end : ℕ)
-        → last ≡ placed_at 0 (bytes_of_line (Line.refused 0 outside_roster)) out
-        → end ≡ 0 + length (bytes_of_line (Line.refused 0 outside_roster)) → end ≤ length last
-        → StepTaken (in_bytes (page_opening id (no_lines l) block)) (no_lines after) before last
-        (record { end = end; on = false })
-    foreign_paged id has is unknown last end =
-        outside_paged l block (went_on true on) id after before out last t end (roster_is id ∙ sym is ∙ unknown) taken
-
--- a stop after the opening, whose line and the year after it are written
-pub year_after : (id : ℕ) (s : PageState) (lines : List Line) (before x out : List ℕ) (m end : ℕ)
-    → length (bytes_of_lines lines) ≤ length before
-    → x ≡ placed_at 0 (bytes_of_lines lines) before → m ≡ length (bytes_of_lines lines)
-    → out ≡ placed_at m (bytes_of_line (Line.year (year_of id s.shortfall s.bonus s.ledger))) x
-    → end ≡ m + length (bytes_of_line (Line.year (year_of id s.shortfall s.bonus s.ledger)))
-    → (out ≡ placed_at 0 (bytes_of_lines (lines ++ year_lines id s)) before)
-    × (end ≡ length (bytes_of_lines (lines ++ year_lines id s)))
-unfolding year_lines
-year_after id s lines before x out m end room first from second ends =
-    let year = Line.year (year_of id s.shortfall s.bonus s.ledger) in
-    let both = then_place 0 (bytes_of_lines lines) (bytes_of_line year) before x out m end (omega arith) first
-    (from ∙ sym (zero-add _)) second ends in
-    let same : bytes_of_lines lines ++ bytes_of_line year ≡ bytes_of_lines (lines ++ year ∷ []) =
-    ap (λ b. bytes_of_lines lines ++ b) (one_line year) ∙ sym (lines_append lines (year ∷ []))
-    in
-    (both.0 ∙ ap (λ b. placed_at 0 b before) same, both.1 ∙ zero-add _ ∙ ap length same)
+        → (last : List ℕ) → last ≡ out ++ bytes_of_line (Line.refused 0 outside_roster)
+        → StepTaken (in_bytes (page_opening id (no_lines l) block)) (no_lines after) before last false
+    foreign_paged id has is unknown last =
+        outside_paged l block (went_on true on) id after before out last t (roster_is id ∙ sym is ∙ unknown) taken
 
 -- the lines at an end after the opening
 pub end_later : (id number : ℕ) (s : PageState) (e : End) → (number ≡ 0 → ⊥)
@@ -268,8 +252,81 @@ pub end_later : (id number : ℕ) (s : PageState) (e : End) → (number ≡ 0 �
 unfolding page_end
 end_later id number s e later = sym (rw (ne_eqb number 0 later))
 
--- a block after the opening
+-- those at one at the opening are the listing's
+pub end_first : (id number : ℕ) (s : PageState) (e : End) → number ≡ 0 → page_end id number s e ≡ end_lines number e
+unfolding page_end
+end_first id number s e first = rw (eq-eqb number 0 first)
+
+-- block 0 is the opening
+pub block_first : (id number : ℕ) (s : PageState) (b : List ℕ) → number ≡ 0
+    → page_block id number s b ≡ page_opening id s b
+unfolding page_block
+block_first id number s b first = rw (eq-eqb number 0 first)
+
+-- a block after it is an interval
 pub block_later : (id number : ℕ) (s : PageState) (b : List ℕ) → (number ≡ 0 → ⊥)
     → page_block id number s b ≡ page_outcome id s (interval_listed number s.ledger b)
 unfolding page_block
 block_later id number s b later = rw (ne_eqb number 0 later)
+
+-- the step of a plant's page where the stream stops: at the opening the line of its end is put
+pub stopped_first : (number : ℕ) (p : Paged) (before out : List ℕ) (next : Next) → stops next ≡ true → number ≡ 0
+    → before ≡ [] → out ≡ before ++ bytes_of_lines (stop_lines number next)
+    → StepTaken (plant_step number p next) p [] out false
+unfolding plant_step step page_steps in_bytes stop_lines
+stopped_first number p before out (Next.stop e) stop first none put = record {
+  leaves = refl;
+  puts = put ∙ ap₂ (λ b ls. b ++ bytes_of_lines ls) none (sym (end_first p.id number p.state e first));
+  goes_on = refl;
+}
+stopped_first number p before out (Next.block bytes rest) stop first none put = never (unfold stops in stop)
+
+-- and later the year line after it
+pub stopped_later : (number : ℕ) (p : Paged) (before x out : List ℕ) (next : Next) → stops next ≡ true
+    → (number ≡ 0 → ⊥) → before ≡ [] → x ≡ before ++ bytes_of_lines (stop_lines number next)
+    → out ≡ x ++ bytes_of_line (Line.year (year_of p.id p.state.shortfall p.state.bonus p.state.ledger))
+    → StepTaken (plant_step number p next) p [] out false
+unfolding plant_step step page_steps in_bytes stop_lines year_lines
+stopped_later number p before x out (Next.stop e) stop later none put year =
+    let both = lines_append (end_lines number e) (year_lines p.id p.state)
+    ∙ ap (λ b. bytes_of_lines (end_lines number e) ++ b) (sym (one_line _)) in
+    record {
+      leaves = refl;
+      puts = rw (year, put, none) (sym both ∙ ap bytes_of_lines (end_later p.id number p.state e later));
+      goes_on = refl;
+    }
+stopped_later number p before x out (Next.block bytes rest) stop later none put year = never (unfold stops in stop)
+
+-- the step on the opening, once a page without lines is opened
+pub opened_taken : (number : ℕ) (p : Paged) (m : PageValue) (l after block before out : List ℕ) (on : Bool)
+    → record { id = m.id; state = state_in l m } ≡ p → PageFits number p.state → number ≡ 0 → before ≡ []
+    → StepTaken (in_bytes (page_opening m.id (no_lines l) block)) (no_lines after) before out on
+    → StepTaken (plant_step number p (Next.block block [])) (record { id = m.id; state = state_in after m }) [] out on
+unfolding plant_step step page_steps in_bytes state_in no_lines
+opened_taken number p m l after block before out on view fits first none taken =
+    let none_short : m.shortfall.0 ≡ 0 = omega (arith, fits.shortfall, ap (λ p. p.state.shortfall) view) in
+    let none_bonus : m.bonus.0 ≡ 0 = omega (arith, fits.bonus, ap (λ p. p.state.bonus) view) in
+    let start : state_in l m ≡ no_lines l = λ i. record { ledger = l; shortfall = none_short i; bonus = none_bonus i } in
+    let end : state_in after m ≡ no_lines after = λ i. record { ledger = after; shortfall = none_short i; bonus = none_bonus i } in
+    let same = block_first m.id number (state_in l m) block first ∙ ap (λ s. page_opening m.id s block) start in
+    subst (λ p. StepTaken (plant_step number p (Next.block block [])) (record { id = m.id; state = state_in after m }) [] out on) view
+    (record {
+      leaves = λ i. record { id = m.id; state = (end ∙ taken.leaves ∙ ap (λ o. o.state) (sym same)) i };
+      puts = taken.puts ∙ ap₂ (λ b o. b ++ bytes_of_lines o.printed) none (sym same);
+      goes_on = taken.goes_on ∙ ap (λ o. o.on) (sym same);
+    })
+
+-- and on an interval block, once it is settled
+pub settled_taken : (number : ℕ) (p : Paged) (m q : PageValue) (l after block before out : List ℕ)
+    → record { id = m.id; state = state_in l m } ≡ p → (number ≡ 0 → ⊥) → before ≡ [] → q.id ≡ m.id
+    → StepTaken (in_bytes (page_outcome m.id (state_in l m) (interval_listed number l block))) (state_in after q) before out true
+    → StepTaken (plant_step number p (Next.block block [])) (record { id = q.id; state = state_in after q }) [] out true
+unfolding plant_step step page_steps in_bytes state_in
+settled_taken number p m q l after block before out view later none own taken =
+    let same = block_later m.id number (state_in l m) block later in
+    subst (λ p. StepTaken (plant_step number p (Next.block block [])) (record { id = q.id; state = state_in after q }) [] out true) view
+    (record {
+      leaves = λ i. record { id = own i; state = (taken.leaves ∙ ap (λ o. o.state) (sym same)) i };
+      puts = taken.puts ∙ ap₂ (λ b o. b ++ bytes_of_lines o.printed) none (sym same);
+      goes_on = taken.goes_on ∙ ap (λ o. o.on) (sym same);
+    })

@@ -2,10 +2,9 @@
 use Prim.Native.Nat.{ℕ}
 use mathlib.Core.Path.{◌≡◌, refl, sym, ap, ◌∙◌}
 use mathlib.Core.List.{List, [], ◌∷◌, ◌++◌}
-use mathlib.Core.Bool.{true, false}
+use mathlib.Core.Bool.{Bool, true, false}
 use Rattle.words.specs.Words.{Bytes}
 use Rattle.stream.specs.Code.{StepTaken}
-use Rattle.stream.specs.declared.Taken.{Taken}
 use Rattle.ledger.specs.Ledger.{not_a_ledger}
 use Rattle.ledger.specs.Opening.{opening}
 use Rattle.settling.specs.Settling.{settling}
@@ -22,16 +21,16 @@ pub year_holds : {l : List ℕ} → YearLedger l → not_a_ledger l ≡ false
 year_holds y = ap not_a_ledger y.leaves ∙ (kept y.block y.buffer y.bytes y.accepted y.calls).holds
 
 -- an accepted opening leaves one
-pub year_opened : (l block after before out : List ℕ) (t : Taken)
-    → StepTaken (in_bytes (opening_listed l block)) after before out t → t.on ≡ true
+pub year_opened : (l block after before out : List ℕ) (on : Bool)
+    → StepTaken (in_bytes (opening_listed l block)) after before out on → on ≡ true
     → Bytes block → YearLedger after
 unfolding in_bytes opening_listed after_calls new_year
-year_opened l block after before out t taken on bytes = record {
+year_opened l block after before out on taken goes bytes = record {
   block = block;
   buffer = l;
   calls = [];
   bytes = bytes;
-  accepted = opened_zero l block (went_on l block after before out t taken true on);
+  accepted = opened_zero l block (went_on l block after before out on taken true goes);
   leaves = taken.leaves;
 }
 

@@ -1,6 +1,5 @@
 pub mod Page
 pub mod Steps
 pub mod Code
-pub mod Room
 pub mod Claims
 pub mod Figures

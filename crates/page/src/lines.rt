@@ -1,20 +1,20 @@
 // The lines of a plant's page: a row's and the year's.
 
-ghost use Rattle.std.specs.Prelude.{◌≡◌, false, map, ◌+◌, ◌≤◌, ◌<◌, ◌^◌, length};
-ghost use Rattle.words.specs.Words.{placed_at};
+ghost use Rattle.std.specs.Prelude.{◌≡◌, map, ◌+◌, ◌≤◌, ◌<◌, ◌^◌, MatchOption};
+ghost use Rattle.arrayvec.specs.ArrayVec.{array_vec_len};
 ghost use Rattle.reading.specs.Interval.{rows_of};
 ghost use Rattle.reading.specs.Values.{Tabled};
-ghost use Rattle.ledger.specs.Ledger.{not_a_ledger};
 ghost use Rattle.ledger.specs.Values.{before};
 ghost use Rattle.listing.specs.Lines.{Line, bytes_of_line};
-ghost use Rattle.listing.specs.Code.{year_in};
+ghost use Rattle.listing.specs.Code.{Puts, year_in};
 ghost use Rattle.listing.specs.Room.{year_room};
 ghost use Rattle.page.specs.Page.{year_of};
 
 use crate::account::plant_account;
+use arrayvec::ArrayVec;
 use assessment::account::limit;
-use assessment::units::Kilowatts;
-use ledger::layout::standing_of;
+use assessment::units::{Kilowatts, Quantity};
+use ledger::ground_six::Ledger;
 use listing::lines::{YearFigures, put_year_line};
 use reading::header::Header;
 use reading::rows::row_at;
@@ -58,30 +58,26 @@ impl Page {
     }
 }
 
-// The place of the row with an id among a file's rows, or the number of rows where none has it.
-pub fn row_of(file: &[u8], h: Header, id: u64) -> usize
+// The place of the row with an id among a file's rows, if one has it.
+pub fn row_of(file: &[u8], h: Header, id: u64) -> Option<usize>
     requires { Tabled file.now h }
-    ensures value { result ≡ before id (map (λ w. w.id) (rows_of file.now)) }
-    ensures upper_bound { result ≤ h.rows }
+    ensures { let place = before id (map (λ w. w.id) (rows_of file.now)) in
+        MatchOption result (place ≡ h.rows) (λ i. (i ≡ place) × (i < h.rows)) }
 {
-    let mut i = 0;
-    while i < h.rows {
+    for i in 0..h.rows {
         let row = row_at(file, h, i);
         if row.id == id {
-            return i;
+            return Some(i);
         }
-        i += 1;
     }
-    i
+    None
 }
 
 // What the year line says, by the sums of the lines above it and the plant's account.
-fn year_figures(page: Page, ledger: &[u8]) -> YearFigures
-    requires { not_a_ledger ledger.now ≡ false }
-    ensures { year_in result ≡ year_of page.id page.shortfall.0 page.bonus.0 ledger.now }
+fn year_figures(page: Page, ledger: Ledger) -> YearFigures
+    ensures { year_in result ≡ year_of page.id page.shortfall.0 page.bonus.0 ledger.entry.bytes.now }
 {
-    let s = standing_of(ledger);
-    let terms = s.terms;
+    let terms = ledger.standing.terms;
     let account = plant_account(ledger, page.id);
     let shortfall = page.shortfall;
     let bonus = page.bonus;
@@ -97,16 +93,11 @@ fn year_figures(page: Page, ledger: &[u8]) -> YearFigures
     }
 }
 
-// Writes the year line.
-pub fn put_year(out: &mut [u8], at: usize, page: Page, ledger: &[u8]) -> usize
-    requires ledger_value { not_a_ledger ledger.now ≡ false }
-    requires year_room_in_bounds { at + year_room ≤ length out.old }
-    ensures out_after { let year = year_of page.id page.shortfall.0 page.bonus.0 ledger.now in
-        out.new ≡ placed_at at (bytes_of_line (Line.year year)) out.old }
-    ensures result_value { let year = year_of page.id page.shortfall.0 page.bonus.0 ledger.now in
-        result ≡ at + length (bytes_of_line (Line.year year)) }
-    ensures upper_bound { result ≤ at + year_room }
+// Puts the year line.
+pub fn put_year<const ROOM: usize>(out: &mut ArrayVec<u8, ROOM>, page: Page, ledger: Ledger)
+    requires { array_vec_len out.old + year_room ≤ ROOM }
+    ensures { let year = year_of page.id page.shortfall.0 page.bonus.0 ledger.entry.bytes.now in
+        Puts out.old (bytes_of_line (Line.year year)) year_room out.new }
 {
-    let year = year_figures(page, ledger);
-    put_year_line(out, at, year)
+    put_year_line(out, year_figures(page, ledger));
 }

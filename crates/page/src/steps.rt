@@ -1,228 +1,177 @@
-// One step of a plant's page: what was read of the id word, of the opening or of an interval becomes lines to print.
+// The steps of a plant's page: what was read of the id word, the opening or an interval becomes lines to print.
 
-ghost use Rattle.std.specs.Prelude.{◌≡◌, true, false, [], ◌++◌, ◌+◌, ◌≤◌, ◌<◌, ◌^◌, length, drop};
-ghost use Rattle.words.specs.Words.{word64, placed_at};
-ghost use Rattle.stream.specs.Stream.{length_bytes, bytes_due};
-ghost use Rattle.stream.specs.Code.{found_as, StepTaken};
+ghost use Rattle.std.specs.Prelude.{◌≡◌, true, false, [], ◌++◌, ◌+◌, ◌≤◌, ◌<◌, ◌^◌, length, drop, MatchOption};
+ghost use Rattle.arrayvec.specs.ArrayVec.{array_vec_len};
+ghost use Rattle.words.specs.Words.{word64};
+ghost use Rattle.stream.specs.Code.{StepTaken};
 ghost use Rattle.reading.specs.Interval.{most_rows};
-ghost use Rattle.ledger.specs.Ledger.{not_a_ledger};
 ghost use Rattle.settling.specs.Settling.{result_bytes};
-ghost use Rattle.listing.specs.Lines.{bytes_of_lines};
-ghost use Rattle.listing.specs.Npalist.{result_buffer, most_bytes, interval_listed};
-ghost use Rattle.listing.specs.Code.{in_bytes, stop_lines};
+ghost use Rattle.listing.specs.Npalist.{interval_listed};
+ghost use Rattle.listing.specs.Code.{in_bytes};
+ghost use Rattle.listing.specs.Room.{cut_room, row_room, refused_room, most_blocks};
 ghost use Rattle.page.specs.Page.{id_word_bytes};
-ghost use Rattle.page.specs.Steps.{no_lines, id_outcome, page_outcome, page_opening, year_lines, next_paged};
-ghost use Rattle.page.specs.Code.{state_in, YearLedger, PageFits, RowPaged};
-ghost use Rattle.page.specs.Room.{most_blocks, step_room};
+ghost use Rattle.page.specs.Steps.{page_start, no_lines, id_outcome, page_outcome, page_opening};
+ghost use Rattle.page.specs.Code.{state_in, plant_step, YearLedger, PageFits, RowPaged, PageMayGoOn};
 
 use crate::account::has_account;
 use crate::lines::{Page, put_year, row_of};
+use arrayvec::ArrayVec;
+use ledger::ground_six::Ledger;
+use ledger::layout::MOST_LEDGER_BYTES;
 use listing::blocks::list_opening;
 use listing::lines::{ROW_ROOM, put_cut, put_refused, put_row_line};
-use listing::steps::{most_bytes, put_stop};
+use listing::steps::{Steps, put_stop};
 use reading::header::header_of;
 use settling::call::settle_file;
 use settling::result::{MOST_RESULT_BYTES, balance_at, row_part};
-use stream::{Found, Taken, next_block};
-use words::number32;
+use std::marker::Model;
+use stream::Found;
+use words::Word;
 
 pub const ID_WORD_BYTES: usize = 4;
 
 const OUTSIDE_ROSTER: u64 = 17;
 
-// A loop that is proved has to end, and nothing says that standard input does: no stream has so many blocks.
-pub const MOST_BLOCKS: u64 = 1099511627776;
-
 // What a step prints at most: a row's line, or a refusal and the year.
 pub const STEP_ROOM: usize = ROW_ROOM;
 
-// What the step on the id word leaves to be done, and the id.
-#[derive(Clone, Copy)]
-pub struct IdStep {
-    pub taken: Taken,
-    pub id: u64,
-}
-
-// What the step on an interval leaves to be done, and the page after it.
-#[derive(Clone, Copy)]
-pub struct PageStep {
-    pub taken: Taken,
-    pub page: Page,
-}
-
-// Takes the step on what was read of the id word.
-pub fn page_id(word: &[u8], out: &mut [u8]) -> IdStep
-    requires word_len_bound { length word.now ≤ id_word_bytes }
-    requires step_room_in_bounds { step_room ≤ length out.old }
-    ensures { StepTaken (in_bytes (id_outcome word.now)) result.id out.old out.new result.taken }
+// Takes the step on what was read of the id word: the id, or a cut where the word is not whole.
+pub fn page_id<const ROOM: usize>(word: &[u8], out: &mut ArrayVec<u8, ROOM>) -> Option<u64>
+    requires word_in_bounds { length word.now ≤ id_word_bytes }
+    requires room { array_vec_len out.old + cut_room ≤ ROOM }
+    ensures { MatchOption result
+        (StepTaken (in_bytes (id_outcome word.now)) 0 out.old.items out.new.items false)
+        (λ id. StepTaken (in_bytes (id_outcome word.now)) id out.old.items out.new.items true) }
 {
     if word.len() < ID_WORD_BYTES {
-        let end = put_cut(out, 0, 0);
-        let taken = Taken { end, on: false };
-        return IdStep { taken, id: 0 };
+        put_cut(out, 0);
+        return None;
     }
-    let taken = Taken { end: 0, on: true };
-    IdStep {
-        taken,
-        id: number32(word, 0),
-    }
+    Some(u32::number(word, 0))
 }
 
-// Opens a ledger, and writes its refusal, or that of an id outside the roster.
-fn open_page(id: u64, ledger: &mut [u8], block: &[u8], out: &mut [u8]) -> Taken
-    requires { step_room ≤ length out.old }
+// Opens a ledger, and puts its refusal, or that of an id outside the roster; answers whether the page goes on.
+fn open_page<const ROOM: usize>(
+    id: u64,
+    ledger: &mut [u8],
+    block: &[u8],
+    out: &mut ArrayVec<u8, ROOM>,
+) -> bool
+    requires { array_vec_len out.old + refused_room ≤ ROOM }
     ensures step_taken { StepTaken (in_bytes (page_opening id (no_lines ledger.old) block.now))
-        (no_lines ledger.new) out.old out.new result }
-    ensures year_ledger { result.on ≡ true → YearLedger ledger.new }
+        (no_lines ledger.new) out.old.items out.new.items result }
+    ensures year_ledger { result ≡ true → YearLedger ledger.new }
 {
-    let taken = list_opening(ledger, block, out);
-    if !taken.on {
-        return taken;
+    let opened = list_opening(ledger, block, out);
+    if !opened {
+        return false;
     }
-    if has_account(ledger, id) {
-        return taken;
+    if has_account(Ledger::held(ledger), id) {
+        return true;
     }
-    let end = put_refused(out, 0, 0, OUTSIDE_ROSTER);
-    Taken { end, on: false }
+    put_refused(out, 0, OUTSIDE_ROSTER);
+    false
 }
 
-// Takes the step on what was read for the opening.
-pub fn page_opening(id: u64, ledger: &mut [u8], head: &[u8], block: &[u8], out: &mut [u8]) -> Taken
-    requires head_in_bounds { length head.now ≤ length_bytes }
-    requires block_len_bound { length block.now ≤ bytes_due (most_bytes 0) head.now }
-    requires step_room_in_bounds { step_room ≤ length out.old }
-    ensures step_taken { StepTaken (in_bytes (next_paged id 0 (no_lines ledger.old) (head.now ++ block.now)))
-        (no_lines ledger.new) out.old out.new result }
-    ensures year_ledger { result.on ≡ true → YearLedger ledger.new }
+// Puts the plant's line, of row i of a result, and adds its figures.
+fn page_row<const ROOM: usize>(
+    page: &mut Page,
+    interval: u64,
+    i: usize,
+    res: &[u8],
+    out: &mut ArrayVec<u8, ROOM>,
+)
+    requires row_below_most { i < most_rows }
+    requires row_in_result { result_bytes (i + 1) ≤ length res.now }
+    requires shortfall_bound { page.old.shortfall.0 + word64 (drop (result_bytes i) res.now) 4 < 2 ^ 64 }
+    requires bonus_bound { page.old.bonus.0 + word64 (drop (result_bytes i) res.now) 5 < 2 ^ 64 }
+    requires room { array_vec_len out.old + row_room ≤ ROOM }
+    ensures { RowPaged page.old interval (drop (result_bytes i) res.now) out.old.items out.new.items page.new }
 {
-    let found = next_block(most_bytes(0), head, block);
-    if found.stops() {
-        let end = put_stop(0, found, out);
-        return Taken { end, on: false };
-    }
-    open_page(id, ledger, block, out)
+    put_row_line(out, interval, page.id, row_part(res, i));
+    *page = page.with(balance_at(res, i));
 }
 
-// Writes the plant's line, of row i of a result, and adds its figures.
-fn page_row(page: Page, interval: u64, i: usize, res: &[u8], out: &mut [u8]) -> PageStep
-    requires i_lt_most_rows { i < most_rows }
-    requires i_in_bounds { result_bytes (i + 1) ≤ length res.now }
-    requires res_bound { page.shortfall.0 + word64 (drop (result_bytes i) res.now) 4 < 2 ^ 64 }
-    requires res_bound_2 { page.bonus.0 + word64 (drop (result_bytes i) res.now) 5 < 2 ^ 64 }
-    requires step_room_in_bounds { step_room ≤ length out.old }
-    ensures { RowPaged page interval (drop (result_bytes i) res.now) out.old out.new result }
-{
-    let row = row_part(res, i);
-    let end = put_row_line(out, 0, interval, page.id, row);
-    let taken = Taken { end, on: true };
-    let page = page.with(balance_at(res, i));
-    PageStep { taken, page }
-}
-
-// Settles an interval file with a result of zeros, and writes the plant's line, if any, or the refusal.
-fn page_settled(
+// Settles an interval file with a result of zeros, and puts the plant's line, if any, or the refusal.
+fn page_interval<const ROOM: usize>(
     number: u64,
-    page: Page,
+    page: &mut Page,
     ledger: &mut [u8],
     file: &[u8],
-    res: &mut [u8],
-    out: &mut [u8],
-) -> PageStep
-    requires res_value { res.old ≡ result_buffer }
-    requires number_lt_most_blocks { number < most_blocks }
-    requires page_fits { PageFits number page }
+    out: &mut ArrayVec<u8, ROOM>,
+)
+    requires few_blocks { number < most_blocks }
+    requires page_fits { PageFits number (state_in ledger.old page.old) }
     requires year_ledger { YearLedger ledger.old }
-    requires step_room_in_bounds { step_room ≤ length out.old }
+    requires room { array_vec_len out.old + row_room ≤ ROOM }
     ensures step_taken { StepTaken
-        (in_bytes (page_outcome page.id (state_in ledger.old page)
+        (in_bytes (page_outcome page.old.id (state_in ledger.old page.old)
         (interval_listed number ledger.old file.now)))
-        (state_in ledger.new result.page) out.old out.new result.taken }
-    ensures id_value { result.page.id ≡ page.id }
-    ensures page_fits_2 { PageFits (number + 1) result.page }
-    ensures year_ledger_2 { YearLedger ledger.new }
+        (state_in ledger.new page.new) out.old.items out.new.items true }
+    ensures same_plant { page.new.id ≡ page.old.id }
+    ensures page_fits_on { PageFits (number + 1) (state_in ledger.new page.new) }
+    ensures year_ledger_on { YearLedger ledger.new }
 {
-    let ground = settle_file(ledger, file, res);
+    let mut res = [0u8; MOST_RESULT_BYTES];
+    let ground = settle_file(ledger, file, &mut res);
     if ground != 0 {
-        let end = put_refused(out, 0, number, ground as u64);
-        let taken = Taken { end, on: true };
-        return PageStep { taken, page };
+        put_refused(out, number, ground as u64);
+        return;
     }
     let h = header_of(file);
-    let i = row_of(file, h, page.id);
-    if h.rows <= i {
-        let taken = Taken { end: 0, on: true };
-        return PageStep { taken, page };
+    if let Some(i) = row_of(file, h, page.id) {
+        page_row(page, h.interval, i, &res, out);
     }
-    page_row(page, h.interval, i, res, out)
 }
 
-// Settles an interval file, and writes the plant's line, if any, or the refusal.
-fn page_interval(
-    number: u64,
+// A plant's page and the ledger, as the blocks leave them.
+#[derive(Drop)]
+pub struct Paging {
     page: Page,
-    ledger: &mut [u8],
-    file: &[u8],
-    out: &mut [u8],
-) -> PageStep
-    requires number_lt_most_blocks { number < most_blocks }
-    requires page_fits { PageFits number page }
-    requires year_ledger { YearLedger ledger.old }
-    requires step_room_in_bounds { step_room ≤ length out.old }
-    ensures step_taken { StepTaken
-        (in_bytes (page_outcome page.id (state_in ledger.old page)
-        (interval_listed number ledger.old file.now)))
-        (state_in ledger.new result.page) out.old out.new result.taken }
-    ensures id_value { result.page.id ≡ page.id }
-    ensures page_fits_2 { PageFits (number + 1) result.page }
-    ensures year_ledger_2 { YearLedger ledger.new }
-{
-    let mut result = [0u8; MOST_RESULT_BYTES];
-    page_settled(number, page, ledger, file, &mut result, out)
+    ledger: [u8; MOST_LEDGER_BYTES],
 }
 
-// Writes the line where a stream stops, if any, and the year line after it.
-fn page_stop(number: u64, found: Found, page: Page, ledger: &[u8], out: &mut [u8]) -> usize
-    requires ledger_value { not_a_ledger ledger.now ≡ false }
-    requires step_room_in_bounds { step_room ≤ length out.old }
-    ensures out_after { let lines = stop_lines number (found_as found []) ++ year_lines page.id (state_in ledger.now page) in
-        out.new ≡ placed_at 0 (bytes_of_lines lines) out.old }
-    ensures result_value { let lines = stop_lines number (found_as found []) ++ year_lines page.id (state_in ledger.now page) in
-        result ≡ length (bytes_of_lines lines) }
-    ensures upper_bound { result ≤ step_room }
-{
-    let end = put_stop(number, found, out);
-    put_year(out, end, page, ledger)
+impl Model for Paging {
+    ghost use Rattle.page.specs.Code.{Paged, state_in};
+
+    ghost Value = { Paged };
+
+    ghost view = { λ p. record { id = p.page.id; state = state_in p.ledger p.page } };
 }
 
-// Takes the step on what was read for an interval.
-pub fn page_next(
-    number: u64,
-    page: Page,
-    ledger: &mut [u8],
-    head: &[u8],
-    block: &[u8],
-    out: &mut [u8],
-) -> PageStep
-    requires number_nonzero { 0 < number }
-    requires number_lt_most_blocks { number < most_blocks }
-    requires page_fits { PageFits number page }
-    requires year_ledger { YearLedger ledger.old }
-    requires head_in_bounds { length head.now ≤ length_bytes }
-    requires block_len_bound { length block.now ≤ bytes_due (most_bytes number) head.now }
-    requires step_room_in_bounds { step_room ≤ length out.old }
-    ensures step_taken { StepTaken
-        (in_bytes (next_paged page.id number (state_in ledger.old page)
-        (head.now ++ block.now)))
-        (state_in ledger.new result.page) out.old out.new result.taken }
-    ensures id_value { result.page.id ≡ page.id }
-    ensures page_fits_2 { PageFits (number + 1) result.page }
-    ensures year_ledger_2 { YearLedger ledger.new }
-{
-    let found = next_block(most_bytes(number), head, block);
-    if found.stops() {
-        let end = page_stop(number, found, page, ledger, out);
-        let taken = Taken { end, on: false };
-        return PageStep { taken, page };
+impl Paging {
+    // Before any block.
+    pub fn new(id: u64) -> Paging
+        ensures start { result ≡ record { id = id; state = page_start } }
+        ensures may_go_on { PageMayGoOn 0 result }
+    {
+        Paging {
+            page: Page::empty(id),
+            ledger: [0; MOST_LEDGER_BYTES],
+        }
     }
-    page_interval(number, page, ledger, block, out)
+}
+
+impl Steps<STEP_ROOM> for Paging {
+    ghost outcome = { plant_step };
+
+    ghost holds = { PageMayGoOn };
+
+    // Takes the step on a block. The number says which, as in the definition: two programs over one stream, one for the
+    // opening and one for what follows, would not be plainer.
+    fn block(&mut self, number: u64, block: &[u8], out: &mut ArrayVec<u8, STEP_ROOM>) -> bool {
+        if number == 0 {
+            return open_page(self.page.id, &mut self.ledger, block, out);
+        }
+        page_interval(number, &mut self.page, &mut self.ledger, block, out);
+        true
+    }
+
+    // Puts the line where the stream stops, if any, and after the opening the year line after it.
+    fn stop(&self, number: u64, found: Found, out: &mut ArrayVec<u8, STEP_ROOM>) {
+        put_stop(number, found, out);
+        if number != 0 {
+            put_year(out, self.page, Ledger::held(&self.ledger));
+        }
+    }
 }

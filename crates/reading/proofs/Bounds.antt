@@ -27,27 +27,7 @@ use Rattle.reading.specs.Block.{
   ids_misplaced,
   ids_out_of_order,
 }
-use Rattle.reading.specs.Interval.{
-  last_kind,
-  intervals_per_day,
-  most_imports,
-  most_kilowatts,
-  most_price,
-  Header,
-  Point,
-  RowWords,
-  Schedule,
-  Row,
-  row_words_of,
-  schedules_named,
-  schedule_of,
-  row_with,
-  row_of,
-  rows_of,
-  header_outside,
-  row_outside,
-  point_outside,
-}
+use Rattle.reading.specs.Interval.{last_kind, intervals_per_day, most_imports, most_kilowatts, most_price, Header, RowWords, Schedule, Row, row_words_of, schedules_named, schedule_of, row_with, row_of, rows_of, header_outside, row_outside}
 use Rattle.reading.proofs.Tables.{each_mapped}
 use Rattle.reading.proofs.RowsLeft.{rows_of_words}
 
@@ -130,16 +110,6 @@ row_in_lem w schedules e = record {
   online = search facts depth 20;
   lmp = search facts depth 20;
 }
-
--- a point that ground 14 does not refuse
-pub record PointIn (p : Point) : Type 0 where
-  pub price : nat_abs p.price ≤ most_price
-  pub kw : p.kw ≤ most_kilowatts
-
--- a point that is not out of range keeps the bounds of price and kW
-pub point_in_lem : (p : Point) → point_outside p ≡ false → PointIn p
-unfolding point_outside beyond
-point_in_lem p e = record { price = search facts; kw = search facts }
 
 -- where ground 13 refuses none of a file's rows, each keeps the bounds
 pub rows_in : (f : List ℕ) → any row_outside (row_words_of f) ≡ false → (r : Row) → Memᴰ r (rows_of f) → RowIn r

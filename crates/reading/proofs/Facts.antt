@@ -3,7 +3,7 @@ use Prim.Native.Nat.{ℕ, ◌+◌, ◌*◌, ◌≤◌, ◌<◌}
 use mathlib.Core.Path.{◌≡◌, sym, ap, subst, ◌∙◌}
 use mathlib.Core.List.{List, [], ◌∷◌}
 use mathlib.Core.Bool.{false}
-use lib.ListN.{length, get_or}
+use lib.ListN.{length, drop, get_or}
 use native.Mathlib.Omega.{arith}
 use Rattle.words.specs.Lists.{any}
 use Rattle.words.specs.Grounds.{outside, lies_from}
@@ -25,6 +25,7 @@ use Rattle.reading.specs.Interval.{
   Table,
   RowWords,
   header_of,
+  row_words,
   row_words_at,
   row_of,
   rows_of,
@@ -132,10 +133,18 @@ module _ {f : List ℕ} {h : HeaderValue} where
   other_said r other e = other (format_said r ∙ e)
 
   -- row i, of so many bytes as the format says, lies within the file
-  pub row_lies : Tabled f h → (bytes : ℕ) → bytes ≡ (layout_of h.format).row_bytes → (i : ℕ) → i < h.rows
-      → h.rows_at + bytes * i + bytes ≤ length f
-  row_lies t bytes is i below =
-      rw is (entry_lies (layout_of h.format).row_bytes h.rows h.rows_at (length f) i t.rows_lie below)
+  pub row_lies : Tabled f h → (i : ℕ) → i < h.rows
+      → h.rows_at + (layout_of h.format).row_bytes * i + (layout_of h.format).row_bytes ≤ length f
+  row_lies t i below = entry_lies (layout_of h.format).row_bytes h.rows h.rows_at (length f) i t.rows_lie below
+
+  -- whose words are read there
+  pub row_read : HeaderRead f h → {bytes : ℕ} → (layout_of h.format).row_bytes ≡ bytes → (i : ℕ) {part : List ℕ}
+      → part ≡ drop (h.rows_at + bytes * i) f → row_words h.format part ≡ row_words_at f i
+  unfolding row_words_at header_in
+  row_read r size i is =
+      ap (row_words h.format) is
+      ∙ ap (λ bytes. row_words h.format (drop (h.rows_at + bytes * i) f)) (sym size)
+      ∙ ap (λ h. row_words h.format (drop (h.rows_offset + (layout_of h.format).row_bytes * i) f)) r.says
 
   -- has the file's number of rows
   pub row_count_lem : HeaderRead f h → h.rows ≡ (header_of f).row_count

@@ -1,12 +1,14 @@
 -- What holds in either format of a file, and what the sizes of both have in common.
 use Prim.Native.Nat.{ℕ, ◌+◌, ◌*◌, ◌≤◌, ◌<◌}
-use mathlib.Core.Path.{◌≡◌}
+use mathlib.Core.Path.{◌≡◌, refl, ◌∙◌}
 use mathlib.Core.Bool.{Bool, true, false, cond}
 use native.Mathlib.Nat.{mul-le-mul_left}
 use native.Mathlib.Omega.{arith}
-use borrow.Author.Tests.{eq-eqb, ne_eqb}
+use borrow.Author.Tests.{eq-eqb, ne_eqb, eqb-true}
 use lib.Dec.{eqb}
 use Rattle.reading.specs.Interval.{curves_format, by_format, Layout, layout_of}
+use Rattle.reading.specs.Kinds.{format_of}
+use Rattle.reading.specs.declared.header.Format.TheVariants.{Curves, Schedules}
 
 module _ {A : Type 0} (one two : A) {format : ℕ} where
   -- in format 1 the first of two holds
@@ -16,6 +18,19 @@ module _ {A : Type 0} (one two : A) {format : ℕ} where
   -- in any other the second
   pub in_schedules : (format ≡ curves_format → ⊥) → by_format format one two ≡ two
   in_schedules other = rw (ne_eqb format curves_format other)
+
+-- a word that is read as the format of curves is that format's
+pub curves_said : {word : ℕ} → Curves ≡ format_of word → word ≡ curves_format
+curves_said {word} = by (eqb word curves_format) refl
+  where
+    by : (t : Bool) → eqb word curves_format ≡ t → Curves ≡ cond t Curves Schedules → word ≡ curves_format
+    by true e read = eqb-true word curves_format e
+    by false e read = cc
+
+-- one that is read as that of schedules is not
+pub schedules_said : {word : ℕ} → Schedules ≡ format_of word → word ≡ curves_format → ⊥
+schedules_said {word} read same =
+    let other : Schedules ≡ Curves = read ∙ in_curves Curves Schedules same in cc
 
 -- what is true of both is true of the one that holds
 pub in_either : {A : Type 0} (P : A → Type 0) {one two : A} → P one → P two → (format : ℕ) → P (by_format format one two)
@@ -48,9 +63,9 @@ row_most = in_either (λ (l : Layout). l.row_bytes ≤ 60) (omega arith) (omega 
 -- a row of format 1 has fourteen
 pub row_fourteen : {format : ℕ} → format ≡ curves_format → (layout_of format).row_bytes ≡ 56
 unfolding layout_of
-row_fourteen {format} e = rw (eq-eqb format curves_format e)
+row_fourteen {format} same = rw (eq-eqb format curves_format same)
 
--- and one of another format fifteen
+-- one of another format fifteen
 pub row_fifteen : {format : ℕ} → (format ≡ curves_format → ⊥) → (layout_of format).row_bytes ≡ 60
 unfolding layout_of
 row_fifteen {format} other = rw (ne_eqb format curves_format other)

@@ -6,14 +6,13 @@ pub mod Tables
 pub mod Bounds
 pub mod Facts
 pub mod Layouts
+pub mod KindWords
 pub mod Schedules
 pub mod RowsLeft
 pub mod SoundRows
 pub mod Parts
 pub mod SpanTests
-pub mod BlockTests
-pub mod HeaderTests
+pub mod Blocks
 pub mod RowTests
 pub mod ScheduleTests
-pub mod CurveTests
 pub mod ScanTests

@@ -1,17 +1,15 @@
 -- Words and stretches of a file: where they stand in it, and what a field holds of a signed one.
 use Prim.Native.Nat.{ℕ, ◌+◌, ◌-◌, ◌*◌, ◌<◌}
-use mathlib.Core.Path.{◌≡◌, sym, ap, ◌∙◌}
+use mathlib.Core.Path.{◌≡◌, ap, ◌∙◌}
 use mathlib.Core.List.{List}
-use mathlib.Core.Bool.{Bool}
 use native.Mathlib.Omega.{arith}
 use borrow.Author.Rules.{part_to_end}
-use lib.ListN.{length, take, drop, length-drop}
+use lib.ListN.{length, take, drop}
 use lib.IntN.{ℤ}
 use lib.Signed.{mag}
 use mir.Syntax.{w64}
 use mir.Val.{to_z, of_z}
 use Rattle.words.specs.Words.{number_at, word32, signed}
-use Rattle.words.specs.Grounds.{beyond}
 use Rattle.words.proofs.Access.{number_at_drop}
 use Rattle.words.proofs.Ints.{plain}
 use Rattle.reading.specs.Interval.{point_bytes, Header, ScheduleWords, header_of, curve_part}
@@ -19,11 +17,6 @@ use Rattle.reading.specs.Interval.{point_bytes, Header, ScheduleWords, header_of
 -- a field that holds the signed number of a word holds that of any word equal to it
 pub signed_field : (z : ℤ) {w v : ℕ} → z ≡ signed w → mag z < 2147483648 → w ≡ v → to_z w64 (of_z w64 z) ≡ signed v
 signed_field z is small same = plain z (omega arith) ∙ is ∙ ap signed same
-
--- a test of what a field holds is one of the number
-pub beyond_field : (most : ℕ) (z : ℤ) {t u : Bool} → mag z < 9223372036854775808
-    → t ≡ beyond most (to_z w64 (of_z w64 z)) → t ≡ u → beyond most z ≡ u
-beyond_field most z small tests gave = ap (beyond most) (sym (plain z small)) ∙ sym tests ∙ gave
 
 -- word k of a part of a buffer stands further on in the whole
 pub word_part : (p : ℕ) (b : List ℕ) (k : ℕ) → word32 (drop p b) k ≡ number_at 4 b (p + 4 * k)
@@ -33,10 +26,6 @@ word_part p b k = number_at_drop 4 p b (4 * k)
 -- a part of a buffer that goes to its end
 pub part_at : (b : List ℕ) (a at : ℕ) → a ≡ at → take (length b - a) (drop a b) ≡ drop at b
 part_at b a at e = part_to_end b a ∙ ap (λ k. drop k b) e
-
--- has what is left of the buffer's length
-pub length_part : (b : List ℕ) (a : ℕ) → length (take (length b - a) (drop a b)) ≡ length b - a
-length_part b a = ap length (part_to_end b a) ∙ length-drop a b
 
 -- the part of a file from a schedule's first point on, the header's offset being known
 pub curve_part_lem : (f : List ℕ) (h : Header) (s : ScheduleWords) → h ≡ header_of f

@@ -1,39 +1,16 @@
 -- The rows of a file, walked by index, and the points of a curve: what is left of them from one on.
 use Prim.Native.Nat.{ℕ, zero, suc, ◌+◌, ◌-◌, ◌*◌, ◌≤◌, ◌<◌}
 use mathlib.Core.Path.{◌≡◌, refl, sym, ap, ap₂, ◌∙◌}
-use mathlib.Core.List.{List, [], ◌∷◌, map, map-map}
+use mathlib.Core.List.{List, [], ◌∷◌, map}
 use mathlib.Core.Bool.{Bool, false, ◌||◌, ◌&&◌}
-use native.Mathlib.Numerals.{add-one}
 use native.Mathlib.Omega.{arith}
 use borrow.Author.Tests.{lt-ltb}
 use lib.ListN.{length, drop, length-map}
 use lib.Dec.{ltb}
 use lib.Signed.{lt_z}
 use Rattle.words.specs.Lists.{any}
-use Rattle.words.proofs.Tests.{not_first, not_second}
-use Rattle.words.proofs.Lists.{any_map}
 use Rattle.words.proofs.Words.{length_entries}
-use Rattle.reading.specs.Interval.{
-  point_bytes,
-  file_layout,
-  Point,
-  RowWords,
-  Row,
-  header_of,
-  point_of,
-  point_at,
-  row_words,
-  row_words_at,
-  row_words_of,
-  points_in,
-  row_with,
-  row_of,
-  rows_of,
-  point_outside,
-  falls_after,
-  falls,
-  point_refused,
-}
+use Rattle.reading.specs.Interval.{point_bytes, file_layout, Point, RowWords, Row, header_of, point_of, point_at, row_words, row_words_at, row_words_of, points_in, row_of, rows_of, point_outside, falls_after, falls, point_refused}
 use Rattle.reading.proofs.Bools.{or_apart, or_then}
 use Rattle.reading.proofs.Tables.{entries_from, table_start, table_turn, table_turn_at, table_end}
 
@@ -102,21 +79,6 @@ module _ (n : ℕ) (c : List ℕ) where
   falls_turn (suc i) h =
       let here : suc i - 1 ≡ i = omega arith in
       rw (here, lt-ltb 0 (suc i) (omega arith)) (falls_next i h)
-
-  -- where no point falls, none falls from point j on
-  none_falls : falls (points_in n c) ≡ false → (j : ℕ) → j < n → falls (points_left j) ≡ false
-  none_falls e zero h = ap falls (sym points_start) ∙ e
-  none_falls e (suc i) h =
-      let pair = falls (point_at c i ∷ point_at c (suc i) ∷ []) in
-      not_second pair (falls (points_left (suc i))) (sym (falls_next i h) ∙ none_falls e i (omega arith))
-
-  -- nor from point j to the next
-  pub next_rises : falls (points_in n c) ≡ false → (j : ℕ) → j + 1 < n
-      → falls (point_at c j ∷ point_at c (j + 1) ∷ []) ≡ false
-  next_rises e j h =
-      let pair = falls (point_at c j ∷ point_at c (suc j) ∷ []) in
-      let none = sym (falls_next j (omega arith)) ∙ none_falls e j (omega arith) in
-      rw (add-one j) (not_first pair (falls (points_left (suc j))) none)
 
   -- what is left from point j on is whether point j is refused, or what is left from j + 1 on
   pub curve_turn : (j : ℕ) → j < n → curve_left j ≡ (point_refused c j || curve_left (j + 1))
@@ -200,12 +162,3 @@ module _ (f : List ℕ) where
       ap length rows_of_words
       ∙ length-map (row_words_of f) (row_of f)
       ∙ length_entries stride row_front (header_of f).row_count table
-
-  -- a test of its rows is one of their words
-  pub any_rows : (p : Row → Bool) → any p (rows_of f) ≡ any (λ w. p (row_of f w)) (row_words_of f)
-  any_rows p = ap (any p) rows_of_words ∙ any_map p (row_of f) (row_words_of f)
-
-  -- the ids of its rows are those of their words
-  pub row_ids_lem : map (λ r. r.id) (rows_of f) ≡ map (λ w. w.id) (row_words_of f)
-  unfolding row_of row_with
-  row_ids_lem = ap (map (λ r. r.id)) rows_of_words ∙ map-map (λ r. r.id) (row_of f) (row_words_of f)

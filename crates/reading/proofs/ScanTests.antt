@@ -5,7 +5,7 @@ use mathlib.Core.Path.{◌≡◌, refl, sym, ap, ◌∙◌}
 use mathlib.Core.List.{List}
 use mathlib.Core.Bool.{Bool, true, false, cond, ◌||◌, or_assoc}
 use native.Mathlib.Omega.{arith}
-use borrow.Author.Tests.{eqb-true, eqb-false}
+use borrow.Author.Tests.{eqb-true}
 use lib.ListN.{length, drop}
 use lib.Dec.{eqb}
 use Rattle.words.specs.Lists.{any}
@@ -34,6 +34,9 @@ use Rattle.reading.specs.Interval.{
   row_grounds,
   point_refused,
 }
+use Rattle.reading.specs.Values.{HeaderRead}
+use Rattle.reading.specs.declared.header.Header.{Header as HeaderValue}
+use Rattle.reading.proofs.Facts.{format_said, row_count_lem, point_count_lem}
 use Rattle.reading.proofs.RowsLeft.{
   curve_left,
   curve_start,
@@ -46,16 +49,6 @@ use Rattle.reading.proofs.RowsLeft.{
 use Rattle.reading.proofs.Schedules.{next_named, none_left}
 use Rattle.reading.proofs.ScheduleTests.{curves_none}
 
--- ground 18 looks at a row only in a format whose rows name schedules
-pub names_schedules : (format rows : ℕ) {naming : ℕ} (i : ℕ) → naming ≡ by_format format 0 rows → i < naming
-    → (format ≡ curves_format → ⊥) × (i < rows)
-names_schedules format rows {naming} i = by (eqb format curves_format) refl
-  where
-    by : (t : Bool) → eqb format curves_format ≡ t → naming ≡ cond t 0 rows → i < naming
-        → (format ≡ curves_format → ⊥) × (i < rows)
-    by true e is h = absurd (omega arith)
-    by false e is h = (eqb-false format curves_format e, omega arith)
-
 -- the rows of a file f
 module _ (f : List ℕ) where
   -- whether a ground refuses a row
@@ -66,34 +59,10 @@ module _ (f : List ℕ) where
   abbrev pub row_from : (RowWords → Bool) → ℕ → Bool
   row_from refusal i = any refusal (words_left f i)
 
-  -- a ground depends on the rows from i on: on what the first of them tells, which has the words w,
-  -- or on those after it
-  pub row_turn : (refusal : RowWords → Bool) (i : ℕ) (w : RowWords) → w ≡ row_words_at f i
-      → some_row refusal ≡ row_from refusal i
-      → (told : Bool) → i < (header_of f).row_count → refusal w ≡ told → some_row refusal ≡ (told || row_from refusal (i + 1))
-  row_turn refusal i w here left told h e = any_turn refusal told left (words_turn f i h) (ap refusal (sym here) ∙ e)
-
-  -- no row is left for it to refuse
-  pub rows_pass : (refusal : RowWords → Bool) (i : ℕ) → some_row refusal ≡ row_from refusal i → (header_of f).row_count ≤ i
-      → some_row refusal ≡ false
-  rows_pass refusal i left h = any_end refusal left (words_end f i h)
-
   -- ground 13 refuses a row, so the answer is 13
   pub row_fails : some_row row_outside ≡ true → answered (row_grounds f) ≡ 13
   unfolding answered row_grounds
   row_fails e = rw e
-
-  -- ground 18 has looked at each row that it applies to
-  pub schedules_pass : {format rows naming : ℕ} (i : ℕ) → format ≡ (header_of f).format → rows ≡ (header_of f).row_count
-      → naming ≡ by_format format 0 rows → some_row (schedules_outside f) ≡ row_from (schedules_outside f) i → naming ≤ i
-      → some_row (schedules_outside f) ≡ false
-  schedules_pass {format} {rows} {naming} i said count = by (eqb format curves_format) refl
-    where
-      by : (t : Bool) → eqb format curves_format ≡ t → naming ≡ cond t 0 rows
-          → some_row (schedules_outside f) ≡ row_from (schedules_outside f) i → naming ≤ i
-          → some_row (schedules_outside f) ≡ false
-      by true e is left h = curves_none f (sym said ∙ eqb-true format curves_format e)
-      by false e is left h = rows_pass (schedules_outside f) i left (omega arith)
 
   -- no row fails ground 13
   module _ (in_range : some_row row_outside ≡ false) where
@@ -105,66 +74,93 @@ module _ (f : List ℕ) where
     -- nor ground 18
     module _ (named : some_row (schedules_outside f) ≡ false) where
       -- where a row fails ground 14, the answer is 14
-      fault_found : some_row (points_outside f) ≡ true → answered (row_grounds f) ≡ 14
+      pub points_fail : some_row (points_outside f) ≡ true → answered (row_grounds f) ≡ 14
       unfolding answered row_grounds
-      fault_found e = rw (in_range, named, e)
+      points_fail e = rw (in_range, named, e)
 
       -- where none does, the answer is 0
       pub all_pass : some_row (points_outside f) ≡ false → answered (row_grounds f) ≡ 0
       unfolding answered row_grounds
       all_pass e = rw (in_range, named, e)
 
-      -- ground 14 depends on the schedules from k on of the row of the words w, or on what comes after them
-      module _ (w : RowWords) (k : ℕ) (rest : Bool)
-          (left : some_row (points_outside f) ≡ (any (curve_outside f) (drop k (schedules_named f w)) || rest)) where
-        -- what is left behind schedule k
-        abbrev behind : Bool
-        behind = any (curve_outside f) (drop (k + 1) (schedules_named f w)) || rest
+-- the rows of a file whose header is read
+module _ {f : List ℕ} {h : HeaderValue} (r : HeaderRead f h) where
+  -- a ground depends on the rows from i on: on what the first of them tells, which has the words w,
+  -- or on those after it
+  pub row_turn : (refusal : RowWords → Bool) (i : ℕ) {w : RowWords} → w ≡ row_words_at f i
+      → some_row f refusal ≡ row_from f refusal i → i < h.rows
+      → {told : Bool} → refusal w ≡ told → some_row f refusal ≡ (told || row_from f refusal (i + 1))
+  row_turn refusal i here left below {told} e =
+      any_turn refusal told left (words_turn f i (omega (arith, row_count_lem r))) (ap refusal (sym here) ∙ e)
 
-        -- no schedule is left, so what comes after them decides
-        pub row_passes : length (schedules_named f w) ≤ k → some_row (points_outside f) ≡ rest
-        unfolding any
-        row_passes h = left ∙ ap (λ l. any (curve_outside f) l || rest) (none_left f w k h)
+  -- no row is left for it to refuse
+  pub rows_pass : (refusal : RowWords → Bool) (i : ℕ) → some_row f refusal ≡ row_from f refusal i → h.rows ≤ i
+      → some_row f refusal ≡ false
+  rows_pass refusal i left h = any_end refusal left (words_end f i (omega (arith, row_count_lem r)))
 
-        -- the next of them is s
-        module _ (s : ScheduleWords) (here : s ≡ schedule_at f w k) (k_th : k < length (schedules_named f w)) where
-          -- ground 14 depends on the number and place of its points, on the points, and on what is behind
-          schedule_turn : some_row (points_outside f)
-              ≡ ((curve_misplaced (header_of f).point_count s || curve_left s.count (curve_part f s) 0) || behind)
-          unfolding curve_outside curve_of any
-          schedule_turn =
-              let place = curve_misplaced (header_of f).point_count s in
-              let curve = points_in s.count (curve_part f s) in
-              let later = any (curve_outside f) (drop (k + 1) (schedules_named f w)) in
-              left
-              ∙ ap (λ l. any (curve_outside f) l || rest) (next_named f w k k_th)
-              ∙ ap (λ s. (curve_outside f s || later) || rest) (sym here)
-              ∙ or_assoc (curve_outside f s) later rest
-              ∙ ap (λ t. t || behind)
-              (or_assoc place (any point_outside curve) (falls curve)
-              ∙ ap (λ t. place || t) (curve_start s.count (curve_part f s)))
+  -- ground 18 has looked at each row that it applies to
+  pub schedules_pass : {naming : ℕ} (i : ℕ) → naming ≡ by_format h.format 0 h.rows
+      → some_row f (schedules_outside f) ≡ row_from f (schedules_outside f) i → naming ≤ i
+      → some_row f (schedules_outside f) ≡ false
+  schedules_pass {naming} i = by (eqb h.format curves_format) refl
+    where
+      by : (t : Bool) → eqb h.format curves_format ≡ t → naming ≡ cond t 0 h.rows
+          → some_row f (schedules_outside f) ≡ row_from f (schedules_outside f) i → naming ≤ i
+          → some_row f (schedules_outside f) ≡ false
+      by true e is left beyond = curves_none f (sym (format_said r) ∙ eqb-true h.format curves_format e)
+      by false e is left beyond = rows_pass (schedules_outside f) i left (omega arith)
 
-          -- the number or place of its points is refused, so the answer is 14
-          pub curve_fails : curve_misplaced (header_of f).point_count s ≡ true → answered (row_grounds f) ≡ 14
-          curve_fails e = fault_found (rw (schedule_turn, e))
+-- ground 14 of a file depends on the schedules from k on of the row of the words w, or on what comes after them
+module _ (f : List ℕ) (w : RowWords) (k : ℕ) (rest : Bool)
+    (left : some_row f (points_outside f) ≡ (any (curve_outside f) (drop k (schedules_named f w)) || rest)) where
+  -- what is left behind schedule k
+  abbrev behind : Bool
+  behind = any (curve_outside f) (drop (k + 1) (schedules_named f w)) || rest
 
-          -- number and place of its points pass, so its points and what is behind decide
-          pub curve_begins : (c : List ℕ) → c ≡ curve_part f s → curve_misplaced (header_of f).point_count s ≡ false
-              → some_row (points_outside f) ≡ (curve_left s.count c 0 || behind)
-          curve_begins c is e = rw (schedule_turn, e, is)
+  -- no schedule is left, so what comes after them decides
+  pub row_passes : length (schedules_named f w) ≤ k → some_row f (points_outside f) ≡ rest
+  unfolding any
+  row_passes h = left ∙ ap (λ l. any (curve_outside f) l || rest) (none_left f w k h)
 
-      -- and on n points from j on, which are at c, or on what comes after them
-      module _ (n : ℕ) (c : List ℕ) (j : ℕ) (rest : Bool)
-          (left : some_row (points_outside f) ≡ (curve_left n c j || rest)) where
-        -- point j is refused, so the answer is 14
-        pub point_fails : j < n → point_refused c j ≡ true → answered (row_grounds f) ≡ 14
-        point_fails h e = fault_found (rw (left, curve_turn n c j h, e))
+  -- the next of them is s, in a file whose header is read
+  module _ {h : HeaderValue} (r : HeaderRead f h) {s : ScheduleWords} (here : s ≡ schedule_at f w k)
+      (k_th : k < length (schedules_named f w)) where
+    -- ground 14 depends on the number and place of its points, on the points, and on what is behind
+    schedule_turn : some_row f (points_outside f)
+        ≡ ((curve_misplaced h.points s || curve_left s.count (curve_part f s) 0) || behind)
+    unfolding curve_outside curve_of any
+    schedule_turn =
+        let place = curve_misplaced (header_of f).point_count s in
+        let curve = points_in s.count (curve_part f s) in
+        let later = any (curve_outside f) (drop (k + 1) (schedules_named f w)) in
+        left
+        ∙ ap (λ l. any (curve_outside f) l || rest) (next_named f w k k_th)
+        ∙ ap (λ s. (curve_outside f s || later) || rest) (sym here)
+        ∙ or_assoc (curve_outside f s) later rest
+        ∙ ap (λ t. t || behind)
+        (or_assoc place (any point_outside curve) (falls curve)
+        ∙ ap (λ t. place || t) (curve_start s.count (curve_part f s))
+        ∙ ap (λ n. curve_misplaced n s || curve_left s.count (curve_part f s) 0) (sym (point_count_lem r)))
 
-        -- point j is not refused, so the points after it and what comes after them decide
-        pub point_passes : j < n → point_refused c j ≡ false
-            → some_row (points_outside f) ≡ (curve_left n c (j + 1) || rest)
-        point_passes h e = rw (left, curve_turn n c j h, e)
+    -- the number or place of its points is refused
+    pub curve_fails : curve_misplaced h.points s ≡ true → some_row f (points_outside f) ≡ true
+    curve_fails e = rw (schedule_turn, e)
 
-        -- no point is left, so what comes after them decides
-        pub curve_passes : n ≤ j → some_row (points_outside f) ≡ rest
-        curve_passes h = rw (left, curve_end n c j h)
+    -- number and place of its points pass, so its n points, which are at c, and what is behind decide
+    pub curve_begins : {n : ℕ} {c : List ℕ} → n ≡ s.count → c ≡ curve_part f s → curve_misplaced h.points s ≡ false
+        → some_row f (points_outside f) ≡ (curve_left n c 0 || behind)
+    curve_begins count is e = rw (schedule_turn, e, count, is)
+
+-- and on n points from j on, which are at c, or on what comes after them
+module _ (n : ℕ) (c : List ℕ) (j : ℕ) {all : Bool} (rest : Bool) (left : all ≡ (curve_left n c j || rest)) where
+  -- the next of them is refused
+  pub point_fails : j < n → point_refused c j ≡ true → all ≡ true
+  point_fails h e = rw (left, curve_turn n c j h, e)
+
+  -- it is not, so the points after it and what comes after them decide
+  pub point_passes : j < n → point_refused c j ≡ false → all ≡ (curve_left n c (j + 1) || rest)
+  point_passes h e = rw (left, curve_turn n c j h, e)
+
+  -- no point is left, so what comes after them decides
+  pub curve_passes : n ≤ j → all ≡ rest
+  curve_passes h = rw (left, curve_end n c j h)

@@ -2,37 +2,22 @@
 use Prim.Native.Nat.{ℕ, zero, suc, ◌+◌, ◌*◌, ◌≤◌, ◌<◌}
 use mathlib.Core.Path.{◌≡◌, refl, sym, ap, ◌∙◌}
 use mathlib.Core.List.{List, [], ◌∷◌}
-use mathlib.Core.Bool.{Bool, true, false, ◌||◌, ◌&&◌, or-true}
+use mathlib.Core.Bool.{Bool, true, false, ◌||◌, ◌&&◌, or-true, or-false, and-false}
 use native.Mathlib.Omega.{arith}
-use borrow.Author.Tests.{lt-ltb, le-ltb, le-leb, lt-leb, eq-eqb}
+use borrow.Author.Tests.{lt-ltb, le-leb, leb-true, eq-eqb}
 use lib.ListN.{drop}
 use lib.Dec.{ltb, leb}
 use Rattle.words.specs.Lists.{any}
 use Rattle.words.specs.Words.{entries}
 use Rattle.words.specs.Grounds.{outside}
 use Rattle.words.proofs.Lists.{any_turn}
-use Rattle.words.proofs.Tests.{lies_below, lies_above, lies_inside}
-use Rattle.reading.specs.Interval.{curves_format, market, cost, most_row_schedules, schedule_bytes, file_layout, Header, RowWords, ScheduleWords, header_of, row_words, row_words_of, schedule_words, table_schedules, schedules_beyond, kind_outside, schedules_outside}
+use Rattle.reading.specs.Interval.{curves_format, most_row_schedules, schedule_bytes, file_layout, RowWords, ScheduleWords, header_of, row_words, row_words_of, schedule_words, table_schedules, schedules_beyond, kind_outside, schedules_outside}
+use Rattle.reading.specs.Values.{header_in, HeaderRead}
+use Rattle.reading.specs.declared.header.Header.{Header as HeaderValue}
+use Rattle.reading.proofs.Facts.{other_said, schedule_count_lem}
 use Rattle.reading.proofs.Layouts.{in_curves, in_schedules}
 use Rattle.reading.proofs.Tables.{entries_from, table_start, table_turn_at, table_end, no_entry}
 use Rattle.reading.proofs.Schedules.{named_none, named_one, named_table, length_table}
-
--- a schedule's kind
-module _ (s : ScheduleWords) where
-  -- below market it is none
-  pub kind_below : s.kind < market → kind_outside s ≡ true
-  unfolding kind_outside
-  kind_below h = lies_below market cost s.kind h
-
-  -- above cost it is none
-  pub kind_above : cost < s.kind → kind_outside s ≡ true
-  unfolding kind_outside
-  kind_above h = lies_above market cost s.kind h
-
-  -- from market to cost it is one
-  pub kind_within : market ≤ s.kind → s.kind ≤ cost → kind_outside s ≡ false
-  unfolding kind_outside
-  kind_within low high = lies_inside market cost s.kind low high
 
 -- so many schedules of a file's table, from one of them on
 module _ (f : List ℕ) (first count : ℕ) where
@@ -64,30 +49,35 @@ module _ (f : List ℕ) (first count : ℕ) where
   unfolding table_left
   schedules_end = table_end schedule_bytes schedule_words count (drop place f)
 
-  -- whether one of them is of no kind is told by the next, read where the header says, or by those after it
-  pub kinds_turn : (h : Header) → h ≡ header_of f → (k : ℕ) (s : ScheduleWords)
-      → s ≡ schedule_words (drop (h.schedules_offset + schedule_bytes * (first + k)) f)
-      → any kind_outside (table_schedules f first count) ≡ any kind_outside (table_left k) → k < count
-      → (told : Bool) → kind_outside s ≡ told
-      → any kind_outside (table_schedules f first count) ≡ (told || any kind_outside (table_left (k + 1)))
-  kinds_turn h says k s is left below told e =
-      let here = is ∙ ap (λ h. schedule_words (drop (h.schedules_offset + schedule_bytes * (first + k)) f)) says in
-      any_turn kind_outside told left (schedules_turn k below here) e
+-- whether one of so many schedules, from one on, is of no kind is told by the next, read where a header says,
+-- or by those after it
+pub kinds_turn : {f : List ℕ} {h : HeaderValue} → HeaderRead f h → (first count k : ℕ) {s : ScheduleWords}
+    → s ≡ schedule_words (drop (h.schedules_at + schedule_bytes * (first + k)) f)
+    → any kind_outside (table_schedules f first count) ≡ any kind_outside (table_left f first count k) → k < count
+    → (told : Bool) → kind_outside s ≡ told
+    → any kind_outside (table_schedules f first count) ≡ (told || any kind_outside (table_left f first count (k + 1)))
+unfolding header_in
+kinds_turn {f} r first count k is left below told e =
+    let here = is ∙ ap (λ h. schedule_words (drop (h.schedules_offset + schedule_bytes * (first + k)) f)) r.says in
+    any_turn kind_outside told left (schedules_turn f first count k below here) e
 
--- the row of these words in a file whose rows name schedules
-module _ (f : List ℕ) (w : RowWords) (two : (header_of f).format ≡ curves_format → ⊥) where
-  -- ground 18 in the row's own words: place, number, kinds, and the one dispatched on
+-- ground 18 in a row's own words, of a file whose header says that rows name schedules: the one dispatched on where it
+-- has none; else their number, the one dispatched on, their place, and their kinds
+module _ {f : List ℕ} {h : HeaderValue} (r : HeaderRead f h) (naming : h.format ≡ curves_format → ⊥)
+    (w : RowWords) where
+  -- the ground, word by word
   outside_is : schedules_outside f w
-      ≡ ((ltb 0 w.count && ltb (header_of f).schedule_count (w.first + w.count))
+      ≡ ((ltb 0 w.count && ltb h.schedules (w.first + w.count))
       || ltb most_row_schedules w.count
       || any kind_outside (table_schedules f w.first w.count)
       || (ltb 0 w.dispatched && leb w.count w.dispatched))
   unfolding schedules_outside schedules_beyond
   outside_is =
+      let two = other_said r naming in
       let place = ltb 0 w.count && ltb (header_of f).schedule_count (w.first + w.count) in
-      rw (length_table f w two, named_table f w two, in_schedules false place two)
+      rw (schedule_count_lem r, length_table f w two, named_table f w two, in_schedules false place two)
 
-  -- a row without schedules is refused just where it was dispatched on another than 0
+  -- a row without schedules
   pub none_dispatched : w.count ≡ 0 → schedules_outside f w ≡ ltb 0 w.dispatched
   unfolding table_schedules entries any
   none_dispatched none = outside_is ∙ rw (none, le-leb 0 w.dispatched (omega arith)) (by (ltb 0 w.dispatched))
@@ -96,37 +86,24 @@ module _ (f : List ℕ) (w : RowWords) (two : (header_of f).format ≡ curves_fo
       by true = refl
       by false = refl
 
-  -- more schedules than a row may have are refused
-  pub schedules_above : most_row_schedules < w.count → schedules_outside f w ≡ true
-  schedules_above h = outside_is ∙ rw (lt-ltb most_row_schedules w.count h, or-true)
-
-  -- one dispatched on that is not below their number is refused, if there are any
-  pub dispatched_late : 0 < w.count → w.count ≤ w.dispatched → schedules_outside f w ≡ true
-  dispatched_late some h =
-      let above : 0 < w.dispatched = omega arith in
-      outside_is ∙ rw (lt-ltb 0 w.dispatched above, le-leb w.count w.dispatched h, or-true)
-
-  -- schedules that reach beyond the table are refused, if there are any
-  pub schedules_beyond_lem : 0 < w.count → ltb (header_of f).schedule_count (w.first + w.count) ≡ true
-      → schedules_outside f w ≡ true
-  schedules_beyond_lem some h = outside_is ∙ rw (lt-ltb 0 w.count some, h)
-
-  -- where number, place and the one dispatched on pass, the kinds decide
-  pub kinds_left : w.count ≤ most_row_schedules → w.dispatched < w.count
-      → ltb (header_of f).schedule_count (w.first + w.count) ≡ false
-      → schedules_outside f w ≡ any kind_outside (table_schedules f w.first w.count)
-  kinds_left few early h =
-      outside_is
-      ∙ rw (h, le-ltb most_row_schedules w.count few, lt-leb w.count w.dispatched early)
-      (by (ltb 0 w.count) (any kind_outside (table_schedules f w.first w.count)) (ltb 0 w.dispatched))
+  -- a row with schedules
+  pub some_named : 0 < w.count → schedules_outside f w
+      ≡ (ltb most_row_schedules w.count || leb w.count w.dispatched || ltb h.schedules (w.first + w.count)
+      || any kind_outside (table_schedules f w.first w.count))
+  some_named some =
+      outside_is ∙ rw (lt-ltb 0 w.count some)
+      (by (ltb h.schedules (w.first + w.count)) (ltb most_row_schedules w.count)
+      (any kind_outside (table_schedules f w.first w.count)) (leb w.count w.dispatched) refl)
     where
-      by : (s t u : Bool) → (((s && false) || false) || t) || (u && false) ≡ t
-      by true true u = refl
-      by false true u = refl
-      by true false true = refl
-      by true false false = refl
-      by false false true = refl
-      by false false false = refl
+      by : (beyond many none above : Bool) → leb w.count w.dispatched ≡ above
+          → (((beyond || many) || none) || (ltb 0 w.dispatched && above)) ≡ (((many || above) || beyond) || none)
+      by beyond many none true e =
+          let late : 0 < w.dispatched = omega (arith, leb-true w.count w.dispatched e) in
+          rw (lt-ltb 0 w.dispatched late, or-true ((beyond || many) || none), or-true many)
+      by true true none false e = refl
+      by true false none false e = refl
+      by false true none false e = refl
+      by false false none false e = rw (and-false (ltb 0 w.dispatched)) (or-false none)
 
 -- in format 1 ground 18 refuses no row of a file
 module _ (f : List ℕ) (one : (header_of f).format ≡ curves_format) where

@@ -1,35 +1,17 @@
 -- The schedules that a row names, in both formats: how many, which one, and those from one on.
-use Prim.Native.Nat.{ℕ, zero, suc, ◌+◌, ◌*◌, ◌≤◌, ◌<◌, ◌^◌}
+use Prim.Native.Nat.{ℕ, zero, suc, min, ◌+◌, ◌*◌, ◌≤◌, ◌<◌}
 use mathlib.Core.Path.{◌≡◌, refl, sym, ap, ◌∙◌}
 use mathlib.Core.List.{List, [], ◌∷◌}
 use native.Mathlib.Numerals.{add-one}
 use native.Mathlib.Omega.{arith}
-use mathlib.Core.Bool.{Bool, true, false, cond}
+use mathlib.Core.Bool.{false}
 use borrow.Author.Tests.{eq-eqb, ne_eqb, lt-ltb, ltb-false}
-use lib.Dec.{eqb}
 use lib.ListN.{length, drop, get_or, drop_of_length-le}
 use lib.Seq.{drop-cons, drop-drop}
-use Rattle.words.specs.Words.{Bytes, word32, entries}
-use Rattle.words.proofs.Words.{drop_bytes, number_at_lt, length_entries, entry_at}
-use Rattle.reading.specs.Interval.{
-  curves_format,
-  market,
-  schedule_bytes,
-  Header,
-  RowWords,
-  ScheduleWords,
-  header_of,
-  file_layout,
-  row_words,
-  row_words_at,
-  schedule_words,
-  table_schedules,
-  as_schedule,
-  schedules_named,
-  no_schedule,
-  schedule_at,
-  schedules_beyond,
-}
+use Rattle.words.specs.Words.{entries}
+use Rattle.words.proofs.Words.{length_entries, entry_at}
+use Rattle.words.proofs.Tests.{facts}
+use Rattle.reading.specs.Interval.{curves_format, market, schedule_bytes, Header, RowWords, ScheduleWords, header_of, schedule_words, table_schedules, as_schedule, schedules_named, no_schedule, schedule_at, schedules_beyond, curve_misplaced}
 use Rattle.reading.proofs.Layouts.{in_schedules, in_either}
 
 -- the row of these words in a file f
@@ -47,6 +29,14 @@ module _ (f : List ℕ) (w : RowWords) where
   pub named_one : (header_of f).format ≡ curves_format → 0 < w.count → schedules_named f w ≡ own_schedule ∷ []
   unfolding schedules_named as_schedule
   named_one same some = rw (eq-eqb (header_of f).format curves_format same, ne_eqb w.count 0 (λ e. omega arith))
+
+  -- so it names one if it has any points
+  pub length_own : (header_of f).format ≡ curves_format → length (schedules_named f w) ≡ min w.count 1
+  length_own same = by w.count refl
+    where
+      by : (n : ℕ) → w.count ≡ n → length (schedules_named f w) ≡ min n 1
+      by zero e = ap length (named_none same e)
+      by (suc n) e = ap length (named_one same (omega (arith, e))) ∙ omega arith
 
   -- in format 2 it names those of the table
   pub named_table : ((header_of f).format ≡ curves_format → ⊥)
@@ -114,41 +104,6 @@ module _ (f : List ℕ) (w : RowWords) where
   pub none_left : (k : ℕ) → length (schedules_named f w) ≤ k → drop k (schedules_named f w) ≡ []
   none_left k beyond = drop_of_length-le (schedules_named f w) {i = k} beyond
 
--- where the file is one of bytes, the word that names a row's first schedule or point fits into 32 bits
-pub row_first : (f : List ℕ) → Bytes f → (i : ℕ) → (row_words_at f i).first < 2 ^ 32
-unfolding row_words_at row_words word32
-row_first f bytes i =
-    let at = (header_of f).rows_offset + (file_layout f).row_bytes * i in
-    omega (arith, number_at_lt 4 (drop at f) 48 (drop_bytes at f bytes))
-
--- and so does the one that names the first point of a schedule of a table
-table_first : (n : ℕ) (b : List ℕ) → Bytes b → (k : ℕ)
-    → (get_or (entries schedule_bytes schedule_words n b) k no_schedule).first < 2 ^ 32
-unfolding entries schedule_words word32
-table_first zero b bytes k = omega arith
-table_first (suc n) b bytes zero = omega (arith, number_at_lt 4 b 4 bytes)
-table_first (suc n) b bytes (suc k) = table_first n (drop schedule_bytes b) (drop_bytes schedule_bytes b bytes) k
-
--- in format 1 it is the row's
-own_first : (w : RowWords) → w.first < 2 ^ 32 → (k : ℕ) → (get_or (as_schedule w) k no_schedule).first < 2 ^ 32
-unfolding as_schedule
-own_first w small = by (eqb w.count 0)
-  where
-    by : (t : Bool) (k : ℕ) → (get_or (cond t [] (own_schedule [] w ∷ [])) k no_schedule).first < 2 ^ 32
-    by true k = omega arith
-    by false zero = small
-    by false (suc k) = omega arith
-
--- so it fits for each schedule that a row names
-pub schedule_first : (f : List ℕ) → Bytes f → (w : RowWords) → w.first < 2 ^ 32 → (k : ℕ)
-    → (schedule_at f w k).first < 2 ^ 32
-unfolding schedule_at schedules_named table_schedules
-schedule_first f bytes w small k =
-    let at = (header_of f).schedules_offset + schedule_bytes * w.first in
-    let listed = table_first w.count (drop at f) (drop_bytes at f bytes) k in
-    in_either (λ (l : List ScheduleWords). (get_or l k no_schedule).first < 2 ^ 32) (own_first w small k) listed
-    (header_of f).format
-
 -- schedules that do not reach beyond the table end within it, if the rows name schedules and this one names any
 pub schedules_end : (h : Header) (w : RowWords) → (h.format ≡ curves_format → ⊥) → schedules_beyond h w ≡ false
     → 0 < w.count → w.first + w.count ≤ h.schedule_count
@@ -156,3 +111,8 @@ unfolding schedules_beyond
 schedules_end h w other e some =
     ltb-false h.schedule_count (w.first + w.count)
     (rw (ne_eqb h.format curves_format other, lt-ltb 0 w.count some) at e)
+
+-- points that are in place end within the file's points
+pub points_within : (points : ℕ) (s : ScheduleWords) → curve_misplaced points s ≡ false → s.first + s.count ≤ points
+unfolding curve_misplaced
+points_within points s e = search facts

@@ -8,57 +8,17 @@ use lib.ListN.{length, drop, get_or, length-map, drop_of_length-le}
 use lib.Seq.{drop-drop}
 use lib.Dec.{ltb, leb}
 use borrow.Author.Tests.{lt-ltb, leb-false}
-use lib.Signed.{lt_z}
 use Rattle.words.specs.Lists.{any}
 use Rattle.words.specs.Grounds.{answered, outside}
 use Rattle.words.proofs.Tests.{facts}
 use Rattle.words.proofs.Grounds.{none_applies}
-use Rattle.words.proofs.Lists.{none_passes}
 use Rattle.words.proofs.Words.{length_entries}
-use Rattle.reading.specs.Interval.{
-  file_layout,
-  point_bytes,
-  most_row_schedules,
-  most_curve_points,
-  Point,
-  RowWords,
-  ScheduleWords,
-  Schedule,
-  Row,
-  header_of,
-  point_of,
-  point_at,
-  row_words,
-  row_words_at,
-  row_words_of,
-  schedules_named,
-  no_schedule,
-  schedule_at,
-  curve_part,
-  points_in,
-  curve_of,
-  schedule_of,
-  row_with,
-  row_of,
-  rows_of,
-  row_outside,
-  schedules_beyond,
-  kind_outside,
-  schedules_outside,
-  point_outside,
-  falls_after,
-  falls,
-  curve_misplaced,
-  curve_outside,
-  points_outside,
-  row_grounds,
-}
+use Rattle.reading.specs.Interval.{file_layout, point_bytes, most_row_schedules, RowWords, ScheduleWords, Schedule, Row, header_of, point_of, row_words, row_words_at, row_words_of, schedules_named, no_schedule, schedule_at, curve_part, points_in, curve_of, schedule_of, row_with, row_of, rows_of, row_outside, schedules_beyond, kind_outside, schedules_outside, curve_misplaced, curve_outside, points_outside, row_grounds}
 use Rattle.reading.specs.Values.{header_in, HeaderRead, Sound, SoundCurve, Scanned}
 use Rattle.reading.specs.declared.header.Header.{Header as HeaderValue}
 use Rattle.reading.proofs.Tables.{none_entry, none_place}
-use Rattle.reading.proofs.Bounds.{RowIn, row_in_lem, rows_in, PointIn, point_in_lem}
+use Rattle.reading.proofs.Bounds.{RowIn, row_in_lem, rows_in}
 use Rattle.reading.proofs.Facts.{row_count_lem, point_count_lem}
-use Rattle.reading.proofs.RowsLeft.{next_rises}
 use Rattle.reading.proofs.Schedules.{next_named}
 
 -- where none of 13, 18 and 14 is answered, none refuses a row
@@ -159,43 +119,6 @@ module _ {f : List ℕ} {s : ScheduleWords} (c : SoundCurve f s) where
   pub count_some : 1 ≤ s.count
   unfolding curve_misplaced outside
   count_some = let placed = curve_placed in search facts
-
-  -- and no more than the most
-  pub count_few : s.count ≤ most_curve_points
-  unfolding curve_misplaced outside
-  count_few = let placed = curve_placed in search facts
-
-  -- none of its points is out of range
-  points_inside : any point_outside (curve_of f s) ≡ false
-  unfolding curve_outside
-  points_inside = let e = c.points in search facts
-
-  -- and price and kW do not fall
-  pub curve_rises : falls (curve_of f s) ≡ false
-  unfolding curve_outside
-  curve_rises = let e = c.points in search facts
-
-  -- each point keeps the bounds
-  pub points_in_lem : (p : Point) → Memᴰ p (curve_of f s) → PointIn p
-  points_in_lem p m = point_in_lem p (none_passes point_outside m points_inside)
-
-  -- point j too, read where the curve begins
-  pub point_at_in : (j : ℕ) → j < s.count → PointIn (point_at (curve_part f s) j)
-  unfolding curve_of points_in point_at
-  point_at_in j h =
-      point_in_lem (point_of (drop (point_bytes * j) (curve_part f s)))
-      (none_entry point_bytes point_of point_outside s.count (curve_part f s) j points_inside h)
-
-  -- from point j to the next, the price does not fall
-  pub price_rises : (j : ℕ) → j + 1 < s.count
-      → lt_z (point_at (curve_part f s) (j + 1)).price (point_at (curve_part f s) j).price ≡ false
-  unfolding curve_of falls falls_after
-  price_rises j h = let rises = next_rises s.count (curve_part f s) curve_rises j h in search facts
-
-  -- nor do the kW
-  pub kilowatts_rise : (j : ℕ) → j + 1 < s.count → (point_at (curve_part f s) j).kw ≤ (point_at (curve_part f s) (j + 1)).kw
-  unfolding curve_of falls falls_after
-  kilowatts_rise j h = let rises = next_rises s.count (curve_part f s) curve_rises j h in search facts
 
 -- a row that is sound
 module _ {f : List ℕ} {w : RowWords} (s : Sound f w) where

@@ -1,5 +1,5 @@
 -- What an opening block and an interval file share: two formats each, which differ in their sizes.
-use Rattle.std.specs.Prelude.{ℕ, List, Bool, true, cond, length, eqb}
+use Rattle.std.specs.Prelude.{ℕ, ◌≡◌, ◌<◌, ◌≤◌, ◌⊎◌, List, Bool, true, cond, length, eqb}
 use Rattle.words.specs.Words.{word32}
 use Rattle.words.specs.Grounds.{outside}
 
@@ -22,3 +22,14 @@ not_of_formats one two b =
     cond (eqb (word32 b 0) 1) (sizes_outside one (length b))
     (cond (eqb (word32 b 0) 2) (sizes_outside two (length b))
     true)
+
+-- bytes that begin with the word of no format: 1 and 2 alone are one
+abbrev pub FormatNone : List ℕ → Type 0
+FormatNone b = (length b < format_bytes) ⊎ ((word32 b 0 < 1) ⊎ (2 < word32 b 0))
+
+-- bytes that begin with the word of a format
+pub record FormatRead (b : List ℕ) (format : ℕ) : Type 0 where
+  pub long : format_bytes ≤ length b
+  pub word : format ≡ word32 b 0
+  pub low : 1 ≤ format
+  pub high : format ≤ 2

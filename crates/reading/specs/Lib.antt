@@ -2,4 +2,5 @@ pub mod Formats
 pub mod Block
 pub mod Interval
 pub mod Values
+pub mod Kinds
 pub mod Figures

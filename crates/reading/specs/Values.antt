@@ -1,6 +1,6 @@
 -- What the values of the code say, as the records that the definitions speak of;
 -- and what is known of them once grounds are ruled out.
-use Rattle.std.specs.Prelude.{ℕ, ◌+◌, ◌*◌, ◌≤◌, ◌≡◌, List, false, length}
+use Rattle.std.specs.Prelude.{ℕ, ◌+◌, ◌*◌, ◌≤◌, ◌<◌, ◌≡◌, List, false, length}
 use Rattle.words.specs.Lists.{any}
 use Rattle.reading.specs.Block.{block_header_bytes, most_ids, id_bytes, Terms, BlockWords, block_words}
 use Rattle.reading.specs.Formats.{Sizes}
@@ -19,6 +19,8 @@ use Rattle.reading.specs.Interval.{
   RowWords,
   row_words_of,
   ScheduleWords,
+  schedules_named,
+  schedule_at,
   row_outside,
   schedules_outside,
   curve_outside,
@@ -130,6 +132,11 @@ pub record Sound (file : List ℕ) (w : RowWords) : Type 0 where
   pub in_range : row_outside w ≡ false
   pub schedules : schedules_outside file w ≡ false
   pub points : points_outside file w ≡ false
+
+-- the schedule that a row of a file was dispatched on, which is one of its own
+pub record Dispatched (file : List ℕ) (w : RowWords) (s : ScheduleValue) : Type 0 where
+  pub among : w.dispatched < length (schedules_named file w)
+  pub says : schedule_in s ≡ schedule_at file w w.dispatched
 
 -- a schedule whose points ground 14 does not refuse
 pub record SoundCurve (file : List ℕ) (s : ScheduleWords) : Type 0 where

@@ -4,6 +4,7 @@ ghost use Rattle.std.specs.Prelude.{◌≡◌, ◌≤◌, ◌<◌, length, get_o
 ghost use Rattle.words.specs.Words.{word32};
 ghost use Rattle.reading.specs.Block.{
   block_header_bytes,
+  block_sizes,
   year_named,
   block_words,
   block_of,
@@ -14,10 +15,11 @@ ghost use Rattle.reading.specs.Block.{
   ids_misplaced,
   ids_out_of_order,
 };
-ghost use Rattle.reading.specs.Values.{terms_in, block_in, BlockRead, Listed};
+ghost use Rattle.reading.specs.Values.{sizes_in, terms_in, block_in, BlockRead, Listed};
 
-use crate::spans::{Sizes, Span, not_of_formats};
-use words::number32;
+use crate::listed::ListedBlock;
+use crate::spans::{Sizes, Span, format_word};
+use words::Word;
 
 // Of the two formats: the one that names no year, and the one that does.
 const YEARLESS: u64 = 1;
@@ -36,7 +38,7 @@ const LEAP_YEAR: u64 = 366;
 
 pub const MOST_IDS: u64 = 512;
 
-const ID_BYTES: usize = 4;
+pub(crate) const ID_BYTES: usize = 4;
 
 // The delivery year that started in 2016, which has divisors of its own.
 pub const TRANSITION_YEAR: u64 = 2016;
@@ -65,6 +67,7 @@ pub struct Block {
 }
 
 // Bytes of a block of a format before its ids may begin.
+#[tactic(auto, unfolding(crate::specs::Block::block_header_bytes))]
 fn block_header_bytes(format: u64) -> usize
     ensures { result ≡ block_header_bytes format }
 {
@@ -75,107 +78,94 @@ fn block_header_bytes(format: u64) -> usize
 }
 
 // The year that a block names, 0 if its format has no word for it.
+#[tactic(auto, using(crate::proofs::Blocks::block_header_least), unfolding(crate::specs::Block::block_header_bytes, crate::specs::Block::year_named, words::specs::Words::word32))]
 fn year_named(block: &[u8]) -> u64
     requires { block_header_bytes (word32 block.now 0) ≤ length block.now }
     ensures { result ≡ year_named block.now }
 {
-    if number32(block, 0) == YEARLESS {
+    if u32::number(block, 0) == YEARLESS {
         return 0;
     }
-    number32(block, 20)
+    u32::number(block, 20)
 }
 
 // The values of a block that ground 1 does not refuse.
+#[tactic(auto, using(crate::proofs::Blocks::block_header_least), unfolding(crate::specs::Block::block_words))]
 pub fn block_of(block: &[u8]) -> Block
     requires { block_header_bytes (block_words block.now).format ≤ length block.now }
     ensures { block_in result ≡ block_words block.now }
 {
     let terms = Terms {
-        net_cone: number32(block, 4),
-        days: number32(block, 8),
+        net_cone: u32::number(block, 4),
+        days: u32::number(block, 8),
         year: year_named(block),
     };
     Block {
-        format: number32(block, 0),
+        format: u32::number(block, 0),
         terms,
-        ids: number32(block, 12) as usize,
-        ids_at: number32(block, 16) as usize,
+        ids: u32::number(block, 12) as usize,
+        ids_at: u32::number(block, 16) as usize,
     }
 }
 
-// The id at an index.
-pub fn id_at(block: &[u8], b: Block, i: usize) -> u64
-    requires listed { Listed block.now b }
-    requires i_lt_ids { i < b.ids }
-    ensures { result ≡ get_or (block_of block.now).ids i 0 }
+// The least and the most bytes of a block of a format.
+#[tactic(auto, unfolding(crate::specs::Block::block_sizes, crate::specs::Values::sizes_in))]
+fn block_sizes(format: u64) -> Sizes
+    ensures { sizes_in result ≡ block_sizes format }
 {
-    number32(block, b.ids_at + ID_BYTES * i)
+    Sizes {
+        least: block_header_bytes(format),
+        most: MOST_BLOCK_BYTES,
+    }
 }
 
 // Ground 1.
+#[tactic(auto, unfolding(crate::specs::Block::not_a_block, crate::specs::Block::block_sizes, crate::specs::Formats::not_of_formats))]
 pub fn not_a_block(block: &[u8]) -> bool
     ensures { result ≡ not_a_block block.now }
 {
-    let yearless = Sizes {
-        least: YEARLESS_HEADER_BYTES,
-        most: MOST_BLOCK_BYTES,
-    };
-    let dated = Sizes {
-        least: DATED_HEADER_BYTES,
-        most: MOST_BLOCK_BYTES,
-    };
-    not_of_formats(block, yearless, dated)
+    match format_word(block) {
+        Some(format) => block_sizes(format).outside(block.len()),
+        None => true,
+    }
 }
 
 // Ground 2.
+#[tactic(auto, unfolding(crate::specs::Block::terms_outside, crate::specs::Values::terms_in, words::specs::Grounds::outside))]
 pub fn terms_outside(terms: Terms) -> bool
     ensures { result ≡ terms_outside (terms_in terms) }
 {
-    if terms.net_cone < 1 {
-        return true;
-    }
-    if MOST_NET_CONE < terms.net_cone {
-        return true;
-    }
-    if terms.days == COMMON_YEAR {
-        return false;
-    }
-    terms.days != LEAP_YEAR
+    terms.net_cone < 1
+        || MOST_NET_CONE < terms.net_cone
+        || terms.days != COMMON_YEAR && terms.days != LEAP_YEAR
 }
 
 // Whether a year is none that a block may name: any but 2016, of 365 days, and 2018 to 2023.
+#[tactic(auto, unfolding(crate::specs::Block::year_outside, crate::specs::Values::terms_in, words::specs::Grounds::outside))]
 pub fn year_outside(terms: Terms) -> bool
     ensures { result ≡ year_outside (terms_in terms) }
 {
     if terms.year == TRANSITION_YEAR {
         return terms.days != COMMON_YEAR;
     }
-    if terms.year < FIRST_YEAR {
-        return true;
-    }
-    LAST_YEAR < terms.year
+    terms.year < FIRST_YEAR || LAST_YEAR < terms.year
 }
 
 // Ground 23.
+#[tactic(auto, unfolding(crate::specs::Block::year_unknown, crate::specs::Values::block_in))]
 pub fn year_unknown(b: Block) -> bool
     ensures { result ≡ year_unknown (block_in b) }
 {
-    if b.format == YEARLESS {
-        return false;
-    }
-    let terms = b.terms;
-    year_outside(terms)
+    b.format != YEARLESS && year_outside(b.terms)
 }
 
 // Ground 3.
+#[tactic(auto, unfolding(crate::specs::Block::ids_misplaced, crate::specs::Values::block_in, words::specs::Grounds::outside))]
 pub fn ids_misplaced(block: &[u8], b: Block) -> bool
     requires { BlockRead block.now b }
     ensures { result ≡ ids_misplaced block.now }
 {
-    if b.ids < 1 {
-        return true;
-    }
-    if MOST_IDS < b.ids as u64 {
+    if b.ids < 1 || MOST_IDS < b.ids as u64 {
         return true;
     }
     let ids = Span {
@@ -185,20 +175,27 @@ pub fn ids_misplaced(block: &[u8], b: Block) -> bool
     ids.leaves(block_header_bytes(b.format), block.len())
 }
 
+// The id at an index.
+pub fn id_at(block: &[u8], b: Block, i: usize) -> u64
+    requires listed { Listed block.now b }
+    requires i_lt_ids { i < b.ids }
+    ensures { result ≡ get_or (block_of block.now).ids i 0 }
+{
+    let listed = ListedBlock {
+        bytes: block,
+        block: b,
+    };
+    listed.id(i)
+}
+
 // Ground 4, of ids that lie within the block.
 pub fn ids_out_of_order(block: &[u8], b: Block) -> bool
     requires { Listed block.now b }
     ensures { result ≡ ids_out_of_order (block_of block.now).ids }
 {
-    let mut last = 0;
-    let mut i = 0;
-    while i < b.ids {
-        let id = id_at(block, b, i);
-        if id <= last {
-            return true;
-        }
-        last = id;
-        i += 1;
-    }
-    false
+    let listed = ListedBlock {
+        bytes: block,
+        block: b,
+    };
+    listed.ids_out_of_order()
 }

@@ -10,20 +10,20 @@ ghost use Rattle.reading.specs.Interval.{
   layout_of,
   file_layout,
   header_of,
+  file_sizes,
   not_a_file,
   header_outside,
   places_outside,
   tables_misplaced,
 };
-ghost use Rattle.reading.specs.Values.{table_in, layout_in, header_in, HeaderRead};
+ghost use Rattle.reading.specs.Kinds.{format_of};
+ghost use Rattle.reading.specs.Values.{sizes_in, table_in, layout_in, header_in, HeaderRead};
 
-use crate::spans::{Sizes, Span, not_of_formats};
-use words::{number32, signed};
+use crate::spans::{Sizes, Span, format_word};
+use words::{Word, signed};
 
-// Format 1, whose rows name points, and format 2, whose rows name schedules.
-pub const CURVES: u64 = 1;
-
-const SCHEDULES: u64 = 2;
+// The word of the format whose rows name points.
+const CURVES: u64 = 1;
 
 pub const MOST_FILE_BYTES: usize = 61440;
 
@@ -45,6 +45,26 @@ pub const POINT_BYTES: usize = 8;
 
 pub const SCHEDULE_BYTES: usize = 12;
 
+// The formats: rows name points, or schedules.
+#[derive(Clone, Copy, PartialEq, Eq)]
+pub enum Format {
+    Curves,
+    Schedules,
+}
+
+// The format by which a file is read that begins with a word.
+impl From<u64> for Format {
+    ghost from_gives = { λ word format. format ≡ format_of word };
+
+    fn from(word: u64) -> Format {
+        if word == CURVES {
+            Format::Curves
+        } else {
+            Format::Schedules
+        }
+    }
+}
+
 // The sizes in which the formats differ.
 #[derive(Clone, Copy)]
 pub struct Layout {
@@ -54,16 +74,17 @@ pub struct Layout {
 }
 
 // The sizes of a format.
+#[tactic(auto, unfolding(crate::specs::Interval::layout_of, crate::specs::Values::layout_in))]
 pub fn layout_of(format: u64) -> Layout
     ensures { layout_in result ≡ layout_of format }
 {
-    match format {
-        CURVES => Layout {
+    match Format::from(format) {
+        Format::Curves => Layout {
             header_bytes: 40,
             row_bytes: CURVES_ROW_BYTES,
             most_bytes: 49152,
         },
-        _ => Layout {
+        Format::Schedules => Layout {
             header_bytes: 48,
             row_bytes: SCHEDULES_ROW_BYTES,
             most_bytes: MOST_FILE_BYTES,
@@ -93,114 +114,97 @@ pub fn schedules_word(b: &[u8], format: u64, at: usize, without: usize) -> usize
     requires { (format ≡ curves_format → ⊥) → at + 4 ≤ length b.now }
     ensures { result ≡ by_format format without (number_at 4 b.now at) }
 {
-    match format {
-        CURVES => without,
-        _ => number32(b, at) as usize,
+    match Format::from(format) {
+        Format::Curves => without,
+        Format::Schedules => u32::number(b, at) as usize,
     }
 }
 
 // The header of a file that ground 7 does not refuse.
+#[tactic(auto, using(crate::proofs::Layouts::header_least))]
 pub fn header_of(file: &[u8]) -> Header
     requires { (file_layout file.now).header_bytes ≤ length file.now }
     ensures { header_in result ≡ header_of file.now }
 {
-    let format = number32(file, 0);
+    let format = u32::number(file, 0);
     Header {
         format,
-        interval: number32(file, 4),
-        net_cone: number32(file, 8),
-        days: number32(file, 12),
-        region_wide: number32(file, 16),
-        imports: signed(number32(file, 20)),
-        rows: number32(file, 24) as usize,
-        rows_at: number32(file, 28) as usize,
-        points: number32(file, 32) as usize,
-        points_at: number32(file, 36) as usize,
+        interval: u32::number(file, 4),
+        net_cone: u32::number(file, 8),
+        days: u32::number(file, 12),
+        region_wide: u32::number(file, 16),
+        imports: signed(u32::number(file, 20)),
+        rows: u32::number(file, 24) as usize,
+        rows_at: u32::number(file, 28) as usize,
+        points: u32::number(file, 32) as usize,
+        points_at: u32::number(file, 36) as usize,
         schedules: schedules_word(file, format, 40, 0),
         schedules_at: schedules_word(file, format, 44, 40),
     }
 }
 
+// The least and the most bytes of a file of a format.
+#[tactic(auto, unfolding(crate::specs::Interval::file_sizes, crate::specs::Values::sizes_in, crate::specs::Values::layout_in))]
+fn file_sizes(format: u64) -> Sizes
+    ensures { sizes_in result ≡ file_sizes format }
+{
+    let layout = layout_of(format);
+    Sizes {
+        least: layout.header_bytes,
+        most: layout.most_bytes,
+    }
+}
+
 // Ground 7.
+#[tactic(auto, unfolding(crate::specs::Interval::not_a_file, crate::specs::Interval::file_sizes, crate::specs::Formats::not_of_formats))]
 pub fn not_a_file(file: &[u8]) -> bool
     ensures { result ≡ not_a_file file.now }
 {
-    let curves = layout_of(CURVES);
-    let schedules = layout_of(SCHEDULES);
-    let one = Sizes {
-        least: curves.header_bytes,
-        most: curves.most_bytes,
-    };
-    let two = Sizes {
-        least: schedules.header_bytes,
-        most: schedules.most_bytes,
-    };
-    not_of_formats(file, one, two)
+    match format_word(file) {
+        Some(format) => file_sizes(format).outside(file.len()),
+        None => true,
+    }
 }
 
 // Whether a signed number lies outside -most to most.
+#[tactic(auto, unfolding(words::specs::Grounds::beyond))]
 pub fn beyond(z: i64, most: u64) -> bool
     requires { most < 2 ^ 63 }
     ensures { result ≡ beyond_of most z }
 {
     let high = most as i64;
-    if z < -high {
-        return true;
-    }
-    high < z
+    z < -high || high < z
 }
 
 // Ground 9, of a header that has the days of a year.
+#[tactic(auto, unfolding(crate::specs::Interval::header_outside, crate::specs::Values::header_in))]
 pub fn header_outside(h: Header) -> bool
     requires { h.days ≤ leap_year }
     ensures { result ≡ header_outside (header_in h) }
 {
-    if INTERVALS_PER_DAY * h.days <= h.interval {
-        return true;
-    }
-    if 1 < h.region_wide {
-        return true;
-    }
-    beyond(h.imports, MOST_IMPORTS)
+    INTERVALS_PER_DAY * h.days <= h.interval || 1 < h.region_wide || beyond(h.imports, MOST_IMPORTS)
 }
 
 // Whether one of three tables leaves the bytes from one to another, or two of them share a byte.
+#[tactic(auto, unfolding(crate::specs::Interval::places_outside, crate::specs::Interval::leaves, crate::specs::Interval::meet, crate::specs::Values::table_in, words::specs::Lists::any))]
 fn places_outside(rows: Span, points: Span, schedules: Span, from: usize, end: usize) -> bool
     ensures { result ≡ places_outside from end (table_in rows) (table_in points) (table_in schedules) }
 {
-    if rows.leaves(from, end) {
-        return true;
-    }
-    if points.leaves(from, end) {
-        return true;
-    }
-    if schedules.leaves(from, end) {
-        return true;
-    }
-    if rows.overlaps(points) {
-        return true;
-    }
-    if rows.overlaps(schedules) {
-        return true;
-    }
-    points.overlaps(schedules)
+    rows.leaves(from, end)
+        || points.leaves(from, end)
+        || schedules.leaves(from, end)
+        || rows.overlaps(points)
+        || rows.overlaps(schedules)
+        || points.overlaps(schedules)
 }
 
 // Ground 11. The numbers are tested first, so that the tables' sizes are small.
+#[tactic(auto, using(crate::proofs::Layouts::row_most), unfolding(crate::specs::Interval::tables_misplaced, crate::specs::Values::header_in, crate::specs::Values::layout_in, crate::specs::Values::table_in, words::specs::Grounds::outside))]
 pub fn tables_misplaced(file: &[u8], h: Header) -> bool
     requires { HeaderRead file.now h }
     ensures { result ≡ tables_misplaced file.now }
 {
-    if h.rows < 1 {
-        return true;
-    }
-    if MOST_ROWS < h.rows {
-        return true;
-    }
-    if MOST_POINTS < h.points {
-        return true;
-    }
-    if MOST_SCHEDULES < h.schedules {
+    if h.rows < 1 || MOST_ROWS < h.rows || MOST_POINTS < h.points || MOST_SCHEDULES < h.schedules {
         return true;
     }
     let sizes = layout_of(h.format);

@@ -3,7 +3,11 @@
 #![tactic(auto)]
 
 pub mod block;
+pub mod curve;
+pub mod file;
 pub mod header;
+pub mod listed;
 pub mod rows;
 pub mod scan;
+pub mod sound;
 mod spans;

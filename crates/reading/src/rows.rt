@@ -1,6 +1,6 @@
 // Rows, schedules and points of an interval file, read as values.
 
-ghost use Rattle.std.specs.Prelude.{◌≡◌, false, List, ℕ, ◌+◌, ◌*◌, ◌≤◌, ◌<◌, ◌^◌, length, drop};
+ghost use Rattle.std.specs.Prelude.{◌≡◌, false, List, ℕ, ◌+◌, ◌*◌, ◌≤◌, ◌<◌, ◌^◌, length};
 ghost use Rattle.std.specs.Int.Signed.{mag};
 ghost use Rattle.reading.specs.Interval.{
   layout_of,
@@ -15,19 +15,76 @@ ghost use Rattle.reading.specs.Interval.{
   schedules_beyond,
   schedules_outside,
   curve_part,
-  point_at,
   curve_misplaced,
+  point_at,
+  row_outside,
+  kind_outside,
 };
+ghost use Rattle.reading.specs.Kinds.{kind_number, KindRead, schedule_kind_number, ScheduleKindRead};
 ghost use Rattle.reading.specs.Values.{header_in, row_in, schedule_in, point_in, Tabled};
 
-use crate::header::{
-    CURVES, CURVES_ROW_BYTES, Header, POINT_BYTES, SCHEDULE_BYTES, SCHEDULES_ROW_BYTES,
-    schedules_word,
-};
-use words::{number32, signed};
+use crate::file::File;
+use crate::header::{Format, Header, POINT_BYTES, schedules_word};
+use words::{Word, signed};
 
-// Kinds of rows: generation or storage, demand resource, energy efficiency, price responsive demand (PRD),
+// The kinds of rows: generation or storage, demand resource, energy efficiency, price responsive demand (PRD),
 // energy-only, importer.
+#[derive(Clone, Copy, PartialEq, Eq)]
+pub enum Kind {
+    Generation = 0,
+    Demand = 1,
+    Efficiency = 2,
+    Responsive = 3,
+    EnergyOnly = 4,
+    Importer = 5,
+}
+
+// The kinds of schedules: market, price-based PLS, cost.
+#[derive(Clone, Copy, PartialEq, Eq)]
+pub enum ScheduleKind {
+    Market = 1,
+    PriceBased = 2,
+    Cost = 3,
+}
+
+// A word that is of no kind.
+#[derive(Clone, Copy, PartialEq, Eq)]
+pub struct NoKind(pub u64);
+
+impl TryFrom<u64> for Kind {
+    type Error = NoKind;
+
+    ghost try_from_gives = { KindRead };
+
+    fn try_from(word: u64) -> Result<Kind, NoKind> {
+        match word {
+            0 => Ok(Kind::Generation),
+            1 => Ok(Kind::Demand),
+            2 => Ok(Kind::Efficiency),
+            3 => Ok(Kind::Responsive),
+            4 => Ok(Kind::EnergyOnly),
+            5 => Ok(Kind::Importer),
+            _ => Err(NoKind(word)),
+        }
+    }
+}
+
+impl TryFrom<u64> for ScheduleKind {
+    type Error = NoKind;
+
+    ghost try_from_gives = { ScheduleKindRead };
+
+    fn try_from(word: u64) -> Result<ScheduleKind, NoKind> {
+        match word {
+            1 => Ok(ScheduleKind::Market),
+            2 => Ok(ScheduleKind::PriceBased),
+            3 => Ok(ScheduleKind::Cost),
+            _ => Err(NoKind(word)),
+        }
+    }
+}
+
+// The kind words of rows and of schedules.
 pub const GENERATION: u64 = 0;
 
 pub const DEMAND: u64 = 1;
@@ -40,7 +97,6 @@ pub const ENERGY_ONLY: u64 = 4;
 
 pub const IMPORTER: u64 = 5;
 
-// Kinds of schedules: market, price-based PLS, cost.
 pub const MARKET: u64 = 1;
 
 pub const PRICE_BASED: u64 = 2;
@@ -83,122 +139,75 @@ pub struct Point {
     pub kw: u64,
 }
 
+impl Row {
+    // The kind, of a row that ground 13 does not refuse.
+    pub fn kind(self) -> Kind
+        requires { row_outside (row_in self) ≡ false }
+        ensures { kind_number result ≡ self.kind }
+    {
+        Kind::try_from(self.kind).unwrap()
+    }
+}
+
+impl Schedule {
+    // The kind, of a schedule that has one.
+    pub fn kind(self) -> ScheduleKind
+        requires { kind_outside (schedule_in self) ≡ false }
+        ensures { schedule_kind_number result ≡ self.kind }
+    {
+        ScheduleKind::try_from(self.kind).unwrap()
+    }
+}
+
 // The row at the front of a part of a file.
-fn row_of(row: &[u8], format: u64) -> Row
+#[tactic(auto, using(crate::proofs::Layouts::row_least))]
+pub(crate) fn row_of(row: &[u8], format: u64) -> Row
     requires { (layout_of format).row_bytes ≤ length row.now }
-    ensures { row_in result ≡ row_words format row.now }
+    ensures words { row_in result ≡ row_words format row.now }
+    ensures first_fits { result.first < 2 ^ 32 }
 {
     Row {
-        id: number32(row, 0),
-        kind: number32(row, 4),
-        committed: number32(row, 8),
-        owned: number32(row, 12),
-        metered: signed(number32(row, 16)),
-        adjustment: signed(number32(row, 20)),
-        planned: number32(row, 24),
-        forced: number32(row, 28),
-        maximum: number32(row, 32),
-        minimum: number32(row, 36),
-        online: number32(row, 40),
-        lmp: signed(number32(row, 44)),
-        first: number32(row, 48) as usize,
-        count: number32(row, 52) as usize,
+        id: u32::number(row, 0),
+        kind: u32::number(row, 4),
+        committed: u32::number(row, 8),
+        owned: u32::number(row, 12),
+        metered: signed(u32::number(row, 16)),
+        adjustment: signed(u32::number(row, 20)),
+        planned: u32::number(row, 24),
+        forced: u32::number(row, 28),
+        maximum: u32::number(row, 32),
+        minimum: u32::number(row, 36),
+        online: u32::number(row, 40),
+        lmp: signed(u32::number(row, 44)),
+        first: u32::number(row, 48) as usize,
+        count: u32::number(row, 52) as usize,
         dispatched: schedules_word(row, format, 56, 0),
     }
 }
 
-// Row i. Each format's rows are a constant apart, which is faster than a size that is looked up.
-pub fn row_at(file: &[u8], h: Header, i: usize) -> Row
-    requires tabled { Tabled file.now h }
-    requires i_lt_rows { i < h.rows }
-    ensures { row_in result ≡ row_words_at file.now i }
+// The schedule at the front of a part of a file.
+#[tactic(auto, unfolding(crate::specs::Values::schedule_in, crate::specs::Interval::schedule_words, words::specs::Words::word32))]
+pub(crate) fn schedule_of(schedule: &[u8]) -> Schedule
+    requires { schedule_bytes ≤ length schedule.now }
+    ensures words { schedule_in result ≡ schedule_words schedule.now }
+    ensures first_fits { result.first < 2 ^ 32 }
 {
-    let format = h.format;
-    match format {
-        CURVES => {
-            let at = h.rows_at + CURVES_ROW_BYTES * i;
-            row_of(&file[at..], format)
-        }
-        _ => {
-            let at = h.rows_at + SCHEDULES_ROW_BYTES * i;
-            row_of(&file[at..], format)
-        }
+    Schedule {
+        kind: u32::number(schedule, 0),
+        first: u32::number(schedule, 4) as usize,
+        points: u32::number(schedule, 8) as usize,
     }
 }
 
 // How many schedules a row has. In format 1 its points are its one schedule.
+#[tactic(auto, unfolding(crate::specs::Values::row_in))]
 pub fn schedules(h: Header, row: Row) -> usize
     ensures { (f : List ℕ) → (header_of f).format ≡ h.format → result ≡ length (schedules_named f (row_in row)) }
 {
-    let format = h.format;
-    match format {
-        CURVES => {
-            if row.count == 0 {
-                return 0;
-            }
-            1
-        }
-        _ => row.count,
+    match Format::from(h.format) {
+        Format::Curves => row.count.min(1),
+        Format::Schedules => row.count,
     }
-}
-
-// Schedule n of the file's table.
-pub fn table_schedule(file: &[u8], h: Header, n: usize) -> Schedule
-    requires tabled { Tabled file.now h }
-    requires n_lt_schedules { n < h.schedules }
-    ensures { schedule_in result ≡ schedule_words (drop (h.schedules_at + schedule_bytes * n) file.now) }
-{
-    let at = h.schedules_at + SCHEDULE_BYTES * n;
-    Schedule {
-        kind: number32(file, at),
-        first: number32(file, at + 4) as usize,
-        points: number32(file, at + 8) as usize,
-    }
-}
-
-// Schedule k of a row. The one of format 1 is a market schedule.
-pub fn schedule_at(file: &[u8], h: Header, row: Row, k: usize) -> Schedule
-    requires tabled { Tabled file.now h }
-    requires row_value { schedules_beyond (header_in h) (row_in row) ≡ false }
-    requires k_in_bounds { k < length (schedules_named file.now (row_in row)) }
-    ensures { schedule_in result ≡ schedule_at file.now (row_in row) k }
-{
-    let format = h.format;
-    match format {
-        CURVES => Schedule {
-            kind: MARKET,
-            first: row.first,
-            points: row.count,
-        },
-        _ => table_schedule(file, h, row.first + k),
-    }
-}
-
-// The schedule that a row was dispatched on; one without points if it has none.
-pub fn dispatched_on(file: &[u8], h: Header, row: Row) -> Schedule
-    requires tabled { Tabled file.now h }
-    requires row_value { schedules_outside file.now (row_in row) ≡ false }
-    ensures { schedule_in result ≡ schedule_at file.now (row_in row) row.dispatched }
-{
-    if row.count == 0 {
-        return Schedule {
-            kind: 0,
-            first: 0,
-            points: 0,
-        };
-    }
-    schedule_at(file, h, row, row.dispatched)
-}
-
-// The part of the file that starts at a schedule's first point.
-pub fn curve(file: &[u8], h: Header, s: Schedule) -> &[u8]
-    requires tabled { Tabled file.now h }
-    requires s_value { curve_misplaced h.points (schedule_in s) ≡ false }
-    ensures result_value { result.now ≡ curve_part file.now (schedule_in s) }
-    ensures points_in_bounds { point_bytes * s.points ≤ length result.now }
-{
-    let at = h.points_at + POINT_BYTES * s.first;
-    &file[at..]
 }
 
 // Point j of a curve.
@@ -210,7 +219,68 @@ pub fn point_at(curve: &[u8], j: usize) -> Point
 {
     let at = POINT_BYTES * j;
     Point {
-        price: signed(number32(curve, at)),
-        kw: number32(curve, at + 4),
+        price: signed(u32::number(curve, at)),
+        kw: u32::number(curve, at + 4),
     }
+}
+
+// Row i of a file.
+pub fn row_at(file: &[u8], h: Header, i: usize) -> Row
+    requires tabled { Tabled file.now h }
+    requires i_lt_rows { i < h.rows }
+    ensures { row_in result ≡ row_words_at file.now i }
+{
+    let file = File {
+        bytes: file,
+        header: h,
+    };
+    file.row(i)
+}
+
+// Schedule k of a row.
+pub fn schedule_at(file: &[u8], h: Header, row: Row, k: usize) -> Schedule
+    requires tabled { Tabled file.now h }
+    requires row_value { schedules_beyond (header_in h) (row_in row) ≡ false }
+    requires k_in_bounds { k < length (schedules_named file.now (row_in row)) }
+    ensures { schedule_in result ≡ schedule_at file.now (row_in row) k }
+{
+    let file = File {
+        bytes: file,
+        header: h,
+    };
+    file.schedule(row, k)
+}
+
+// The schedule that a row was dispatched on; one without points if it has none.
+pub fn dispatched_on(file: &[u8], h: Header, row: Row) -> Schedule
+    requires tabled { Tabled file.now h }
+    requires row_value { schedules_outside file.now (row_in row) ≡ false }
+    ensures { schedule_in result ≡ schedule_at file.now (row_in row) row.dispatched }
+{
+    let file = File {
+        bytes: file,
+        header: h,
+    };
+    match file.dispatched_on(row) {
+        Some(schedule) => schedule,
+        None => Schedule {
+            kind: 0,
+            first: 0,
+            points: 0,
+        },
+    }
+}
+
+// The part of the file that starts at a schedule's first point.
+pub fn curve(file: &[u8], h: Header, s: Schedule) -> &[u8]
+    requires tabled { Tabled file.now h }
+    requires s_value { curve_misplaced h.points (schedule_in s) ≡ false }
+    ensures result_value { result.now ≡ curve_part file.now (schedule_in s) }
+    ensures points_in_bounds { point_bytes * s.points ≤ length result.now }
+{
+    let file = File {
+        bytes: file,
+        header: h,
+    };
+    file.curve(s).points
 }

@@ -1,13 +1,12 @@
 // Grounds 13, 18 and 14: the rows, their schedules and the points of these.
 
-ghost use Rattle.std.specs.Prelude.{◌≡◌, ◌∷◌, [], ◌+◌, ◌*◌, ◌≤◌, ◌<◌, ◌^◌, length, ltb};
+ghost use Rattle.std.specs.Prelude.{◌≡◌, ◌∷◌, [], ◌+◌, ◌≤◌, ◌<◌, ◌^◌, ◌||◌, ltb, MatchResult};
 ghost use Rattle.words.specs.Lists.{any};
-ghost use Rattle.words.specs.Grounds.{answered};
+ghost use Rattle.words.specs.Grounds.{beyond as beyond_of, answered};
 ghost use Rattle.reading.specs.Interval.{
   curves_format,
   by_format,
   most_kilowatts,
-  point_bytes,
   table_schedules,
   row_outside,
   kind_outside,
@@ -20,11 +19,11 @@ ghost use Rattle.reading.specs.Interval.{
 };
 ghost use Rattle.reading.specs.Values.{row_in, schedule_in, point_in, Tabled};
 
-use crate::header::{CURVES, Header, beyond};
-use crate::rows::{
-    COST, ENERGY_ONLY, IMPORTER, MARKET, Point, Row, Schedule, curve, point_at, row_at,
-    schedule_at, schedules, table_schedule,
-};
+use crate::curve::Curve;
+use crate::file::File;
+use crate::header::{Format, Header, beyond};
+use crate::rows::{Kind, Point, Row, Schedule, ScheduleKind};
+use crate::sound::ScannedFile;
 
 pub const MOST_KILOWATTS: u64 = 4000000;
 
@@ -34,7 +33,9 @@ const MOST_ROW_SCHEDULES: usize = 4;
 
 const MOST_CURVE_POINTS: usize = 10;
 
-// Whether a word of a row that counts kW, and is not signed, is too high.
+// Whether a word of a row that counts kW, and is not signed, is too high. Here and in the other tests of ground 13 each
+// returns, since settling takes longer where `||` joins them.
+#[tactic(auto, unfolding(words::specs::Lists::any))]
 fn kilowatts_outside(row: Row) -> bool
     ensures { result ≡ any (ltb most_kilowatts)
         (row.committed ∷ row.owned ∷ row.planned ∷ row.forced ∷ row.maximum ∷ row.minimum ∷ []) }
@@ -57,20 +58,28 @@ fn kilowatts_outside(row: Row) -> bool
     MOST_KILOWATTS < row.minimum
 }
 
-// Ground 13, of one row.
-pub fn row_outside(row: Row) -> bool
-    ensures { result ≡ row_outside (row_in row) }
+// Whether what was metered, or its adjustment, lies too far from 0.
+fn output_outside(row: Row) -> bool
+    ensures { result ≡ (beyond_of most_kilowatts row.metered || beyond_of most_kilowatts row.adjustment) }
 {
-    if IMPORTER < row.kind {
-        return true;
-    }
-    if kilowatts_outside(row) {
-        return true;
-    }
     if beyond(row.metered, MOST_KILOWATTS) {
         return true;
     }
-    if beyond(row.adjustment, MOST_KILOWATTS) {
+    beyond(row.adjustment, MOST_KILOWATTS)
+}
+
+// Ground 13, of one row.
+#[tactic(auto, unfolding(crate::specs::Interval::row_outside, crate::specs::Values::row_in))]
+pub fn row_outside(row: Row) -> bool
+    ensures { result ≡ row_outside (row_in row) }
+{
+    let Ok(kind) = Kind::try_from(row.kind) else {
+        return true;
+    };
+    if kilowatts_outside(row) {
+        return true;
+    }
+    if output_outside(row) {
         return true;
     }
     if row.maximum < row.minimum {
@@ -82,10 +91,7 @@ pub fn row_outside(row: Row) -> bool
     if beyond(row.lmp, MOST_PRICE) {
         return true;
     }
-    if row.kind < ENERGY_ONLY {
-        return false;
-    }
-    0 < row.committed
+    matches!(kind, Kind::EnergyOnly | Kind::Importer) && 0 < row.committed
 }
 
 // Whether so many entries of a table, from one of them on, reach beyond it.
@@ -96,152 +102,147 @@ fn reach_beyond(table: usize, first: usize, count: usize) -> bool
     table < first + count
 }
 
-// Whether one of so many schedules of the file's table, from one of them on, is of no kind.
-fn kinds_outside(file: &[u8], h: Header, first: usize, count: usize) -> bool
-    requires tabled { Tabled file.now h }
-    requires count_bound { first + count ≤ h.schedules }
-    ensures { result ≡ any kind_outside (table_schedules file.now first count) }
+// Whether a schedule is of no kind.
+#[tactic(auto, unfolding(crate::specs::Interval::kind_outside, crate::specs::Values::schedule_in, words::specs::Grounds::outside))]
+fn kind_outside(s: Schedule) -> bool
+    ensures { result ≡ kind_outside (schedule_in s) }
 {
-    let mut k = 0;
-    while k < count {
-        let s = table_schedule(file, h, first + k);
-        if s.kind < MARKET {
+    ScheduleKind::try_from(s.kind).is_err()
+}
+
+// Whether one of so many schedules of the file's table, from one of them on, is of no kind.
+fn kinds_outside(file: &File<'_>, first: usize, count: usize) -> bool
+    requires { first + count ≤ file.now.header.schedules }
+    ensures { result ≡ any kind_outside (table_schedules file.now.bytes.now first count) }
+{
+    for k in 0..count {
+        if kind_outside(file.table_schedule(first + k)) {
             return true;
         }
-        if COST < s.kind {
-            return true;
-        }
-        k += 1;
     }
     false
 }
 
 // Ground 18, of one row of a file whose rows name schedules.
-fn schedules_outside(file: &[u8], h: Header, row: Row) -> bool
-    requires tabled { Tabled file.now h }
-    requires fact { h.format ≡ curves_format → ⊥ }
-    requires first_bound { row.first < 2 ^ 32 }
-    ensures { result ≡ schedules_outside file.now (row_in row) }
+fn schedules_outside(file: &File<'_>, row: Row) -> bool
+    requires naming { file.now.header.format ≡ curves_format → ⊥ }
+    requires first_fits { row.first < 2 ^ 32 }
+    ensures { result ≡ schedules_outside file.now.bytes.now (row_in row) }
 {
     // Without schedules the word that names the first is free.
     if row.count == 0 {
         return 0 < row.dispatched;
     }
-    if MOST_ROW_SCHEDULES < row.count {
-        return true;
-    }
-    if row.count <= row.dispatched {
-        return true;
-    }
-    if reach_beyond(h.schedules, row.first, row.count) {
-        return true;
-    }
-    kinds_outside(file, h, row.first, row.count)
+    MOST_ROW_SCHEDULES < row.count
+        || row.count <= row.dispatched
+        || reach_beyond(file.header.schedules, row.first, row.count)
+        || kinds_outside(file, row.first, row.count)
 }
 
 // How many rows ground 18 looks at: in format 1 it applies to none.
 fn rows_naming(h: Header) -> usize
-    ensures { result ≡ by_format h.format 0 h.rows }
+    ensures value { result ≡ by_format h.format 0 h.rows }
+    ensures upper_bound { result ≤ h.rows }
+    ensures naming { 0 < result → h.format ≡ curves_format → ⊥ }
 {
-    if h.format == CURVES {
-        return 0;
+    match Format::from(h.format) {
+        Format::Curves => 0,
+        Format::Schedules => h.rows,
     }
-    h.rows
 }
 
 // Whether a schedule's points are too few, too many, or reach beyond a table of so many.
+#[tactic(auto, unfolding(crate::specs::Interval::curve_misplaced, crate::specs::Values::schedule_in, words::specs::Grounds::outside))]
 fn curve_misplaced(points: usize, s: Schedule) -> bool
     requires { s.first < 2 ^ 32 }
     ensures { result ≡ curve_misplaced points (schedule_in s) }
 {
-    if s.points < 1 {
-        return true;
-    }
-    if MOST_CURVE_POINTS < s.points {
-        return true;
-    }
-    reach_beyond(points, s.first, s.points)
+    s.points < 1 || MOST_CURVE_POINTS < s.points || reach_beyond(points, s.first, s.points)
 }
 
 // Whether a point is out of range.
+#[tactic(auto, unfolding(crate::specs::Interval::point_outside, crate::specs::Values::point_in))]
 fn point_outside(p: Point) -> bool
     ensures { result ≡ point_outside (point_in p) }
 {
-    if beyond(p.price, MOST_PRICE) {
-        return true;
-    }
-    MOST_KILOWATTS < p.kw
+    beyond(p.price, MOST_PRICE) || MOST_KILOWATTS < p.kw
 }
 
 // Whether the price or the kW falls from one point to the next.
+#[tactic(auto, unfolding(crate::specs::Interval::falls, crate::specs::Interval::falls_after, crate::specs::Values::point_in))]
 fn falls(p: Point, next: Point) -> bool
     ensures { result ≡ falls_of (point_in p ∷ point_in next ∷ []) }
 {
-    if next.price < p.price {
-        return true;
-    }
-    next.kw < p.kw
+    next.price < p.price || next.kw < p.kw
 }
 
 // Whether point j of a curve is out of range, or falls from the one before it.
-fn point_refused(curve: &[u8], j: usize) -> bool
-    requires { point_bytes * (j + 1) ≤ length curve.now }
-    ensures { result ≡ point_refused curve.now j }
+fn point_refused(curve: &Curve<'_>, j: usize) -> bool
+    requires { j < curve.now.count }
+    ensures { result ≡ point_refused curve.now.points.now j }
 {
-    let p = point_at(curve, j);
-    if point_outside(p) {
-        return true;
-    }
-    if j == 0 {
-        return false;
-    }
-    falls(point_at(curve, j - 1), p)
+    let p = curve.point(j);
+    point_outside(p) || j != 0 && falls(curve.point(j - 1), p)
 }
 
-// Grounds 13, 18 and 14, of tables that lie within the file: all rows are tested for one before any for the next.
+impl<'a> File<'a> {
+    // Grounds 13, 18 and 14: all rows are tested for one before any for the next.
+    pub fn scan(&self) -> u32
+        ensures { result ≡ answered (row_grounds self.now.bytes.now) }
+    {
+        let h = self.header;
+        let ground = 'scan: loop {
+            for i in 0..h.rows {
+                if row_outside(self.row(i)) {
+                    break 'scan 13;
+                }
+            }
+            for m in 0..rows_naming(h) {
+                if schedules_outside(self, self.row(m)) {
+                    break 'scan 18;
+                }
+            }
+            for n in 0..h.rows {
+                let row = self.row(n);
+                for k in 0..self.schedules(row) {
+                    let s = self.schedule(row, k);
+                    if curve_misplaced(h.points, s) {
+                        break 'scan 14;
+                    }
+                    let points = self.curve(s);
+                    for j in 0..points.count {
+                        if point_refused(&points, j) {
+                            break 'scan 14;
+                        }
+                    }
+                }
+            }
+            break 'scan 0;
+        };
+        ground
+    }
+
+    // The file, if none of these grounds refuses it, or else the first that does.
+    pub fn scanned(self) -> Result<ScannedFile<'a>, u32>
+        ensures { let answer = answered (row_grounds self.entry.bytes.now) in
+            MatchResult result (λ scanned. (scanned.file ≡ self.entry) × (answer ≡ 0))
+            (λ refusal. (refusal ≡ answer) × (0 < refusal)) }
+    {
+        match self.scan() {
+            0 => Ok(ScannedFile { file: self }),
+            ground => Err(ground),
+        }
+    }
+}
+
+// Grounds 13, 18 and 14, of tables that lie within the file.
 pub fn scan(file: &[u8], h: Header) -> u32
     requires { Tabled file.now h }
     ensures { result ≡ answered (row_grounds file.now) }
 {
-    let naming = rows_naming(h);
-    let ground = 'scan: loop {
-        let mut i = 0;
-        while i < h.rows {
-            if row_outside(row_at(file, h, i)) {
-                break 'scan 13;
-            }
-            i += 1;
-        }
-        let mut m = 0;
-        while m < naming {
-            if schedules_outside(file, h, row_at(file, h, m)) {
-                break 'scan 18;
-            }
-            m += 1;
-        }
-        let mut n = 0;
-        while n < h.rows {
-            let row = row_at(file, h, n);
-            let count = schedules(h, row);
-            let mut k = 0;
-            while k < count {
-                let s = schedule_at(file, h, row, k);
-                if curve_misplaced(h.points, s) {
-                    break 'scan 14;
-                }
-                let points = curve(file, h, s);
-                let mut j = 0;
-                while j < s.points {
-                    if point_refused(points, j) {
-                        break 'scan 14;
-                    }
-                    j += 1;
-                }
-                k += 1;
-            }
-            n += 1;
-        }
-        break 'scan 0;
+    let file = File {
+        bytes: file,
+        header: h,
     };
-    ground
+    file.scan()
 }

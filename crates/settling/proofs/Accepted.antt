@@ -15,13 +15,13 @@ use Rattle.reading.specs.Interval.{most_rows, Row, Header, header_of, rows_of, n
 use Rattle.reading.specs.Values.{terms_in, header_in}
 use Rattle.reading.specs.declared.header.Header.{Header as HeaderValue}
 use Rattle.reading.proofs.Bounds.{HeaderIn, header_in_hold, RowIn}
-use Rattle.reading.proofs.Facts.{length_tabled}
+use Rattle.reading.proofs.Facts.{header_read, length_tabled}
 use Rattle.reading.proofs.SoundRows.{rows_sound}
 use Rattle.assessment.specs.Assessment.{most_cents, pool}
 use Rattle.ledger.specs.Ledger.{Standing, standing_of, Ledger, ledger_of, ids_in, not_a_ledger}
 use Rattle.ledger.specs.Values.{standing_in}
 use Rattle.ledger.specs.declared.layout.Standing.{Standing as StandingValue}
-use Rattle.ledger.proofs.Sound.{ground_zero, LedgerIn, ledger_in}
+use Rattle.ledger.proofs.Sound.{ground_zero, LedgerIn, ledger_in, ledger_read}
 use Rattle.settling.specs.Settling.{
   result_bytes,
   assessed_file,
@@ -117,7 +117,8 @@ said_passed : (ledger file result : List ℕ) → not_a_ledger ledger ≡ false 
     → answered (later_grounds ledger file result) ≡ 0
     → Passed ledger (standing_said (standing_of ledger)) file (header_said (header_of file))
 unfolding standing_in header_in terms_in
-said_passed ledger file result e₆ e₇ none = passed ledger file result e₆ e₇ refl refl none
+said_passed ledger file result e₆ e₇ none =
+    passed ledger file result (ledger_read ledger _ e₆ refl) (header_read e₇ refl) none
 
 -- where a call of settling answers 0, ledger, file and result buffer are as it accepts them
 pub accepted : (ledger file result : List ℕ) → (settling ledger file result).refusal ≡ 0 → Accepted ledger file result

@@ -3,17 +3,16 @@
 use Prim.Native.Nat.{ℕ, ◌+◌, ◌*◌, ◌≤◌, ◌<◌, ◌^◌}
 use mathlib.Core.Path.{◌≡◌, refl, sym, ap, ◌∙◌}
 use mathlib.Core.List.{List, [], ◌∷◌, ◌++◌, map}
-use mathlib.Core.Bool.{false}
 use native.Mathlib.Omega.{arith}
 use borrow.Author.Tests.{le-ltb}
 use lib.ListN.{length, length-map}
-use Rattle.words.specs.Words.{Bytes, word32, written, written_at}
+use Rattle.words.specs.Words.{written, written_at}
 use Rattle.words.proofs.Access.{length_written_at}
-use Rattle.words.proofs.Words.{number_at_lt}
-use Rattle.words.proofs.Tests.{facts}
+use Rattle.reading.specs.Block.{leap_year}
 use Rattle.reading.specs.Interval.{header_of, rows_of}
 use Rattle.reading.specs.Values.{terms_in, header_in}
 use Rattle.reading.specs.declared.header.Header.{Header as HeaderValue}
+use Rattle.reading.proofs.Bounds.{header_in_hold}
 use Rattle.assessment.specs.Assessment.{
   ratio_of,
   printed_ratio,
@@ -37,7 +36,6 @@ use Rattle.ledger.specs.Ledger.{
   account_words,
   standing_words,
   ledger_words,
-  not_a_ledger,
 }
 use Rattle.ledger.specs.declared.layout.Standing.{Standing as StandingValue}
 use Rattle.ledger.proofs.Sound.{said}
@@ -61,11 +59,6 @@ unfolding rows_words
 length_rows_words credited [] = refl
 length_rows_words credited (c ∷ cs) = omega (arith, length_rows_words credited cs)
 
--- a ledger that ground 6 does not refuse has its eight words
-pub ledger_has_header : (b : List ℕ) → not_a_ledger b ≡ false → ledger_header_bytes ≤ length b
-unfolding not_a_ledger
-ledger_has_header b e = search facts depth 20
-
 -- a ledger and a file that grounds 6 to 14 do not refuse
 module _ {ledger file : List ℕ} {s : StandingValue} {h : HeaderValue} (p : Passed ledger s file h) where
   -- the interval that the file makes of the ledger
@@ -76,10 +69,10 @@ module _ {ledger file : List ℕ} {s : StandingValue} {h : HeaderValue} (p : Pas
   abbrev row_words : (ChargedRow → ℕ) → List ℕ
   row_words credited = rows_words credited v.rows
 
-  -- the interval fits 32 bits
-  pub interval_fits : Bytes file → h.interval < 2 ^ 32
-  unfolding header_in header_of word32
-  interval_fits bytes = omega (arith, ap (λ h. h.interval) p.tabled.read.says, number_at_lt 4 file 4 bytes)
+  -- with the days of a year, the interval after it fits
+  pub next_fits : h.days ≤ leap_year → h.interval + 1 < 2 ^ 64
+  unfolding header_in
+  next_fits few = omega (arith, (header_in_hold (header_in h) p.header_in_hold).interval)
 
   -- the ledger has room for the words before its accounts
   pub header_room : ledger_header_bytes ≤ length ledger

@@ -5,7 +5,6 @@ pub mod SettlingAnswers
 pub mod SettlingTests
 pub mod SettlingEnds
 pub mod IdTests
-pub mod ResultLaws
 pub mod Impostors
 pub mod BudgetLaws
 pub mod Turns

@@ -1,11 +1,12 @@
 -- What is left to credit and to post while rows are walked beside the accounts, and what a turn does to it.
-use Prim.Native.Nat.{ℕ, zero, suc, ◌+◌, ◌-◌, ◌*◌, ◌≤◌, ◌<◌, ◌^◌}
-use mathlib.Core.Path.{◌≡◌, refl, sym, ap, ap₂, ◌∙◌}
+use Prim.Native.Nat.{ℕ, suc, ◌+◌, ◌-◌, ◌*◌, ◌≤◌, ◌<◌, ◌^◌}
+use mathlib.Core.Path.{◌≡◌, refl, sym, ap, ap₂, ◌∙◌, subst}
 use mathlib.Core.List.{List, [], ◌∷◌, ◌++◌, map, map-map}
 use native.Mathlib.Omega.{arith}
 use borrow.Author.Tests.{eq-eqb}
 use lib.ListN.{length, take, drop, get_or, length-drop}
 use lib.Seq.{drop-drop, drop_at, take_all, get_or-drop, length-take-le}
+use Rattle.std.proofs.lemmas.List.{drop-map}
 use Rattle.words.specs.Lists.{sum, rises}
 use Rattle.words.specs.Words.{Bytes, number, bytes_of, number_at, word64, bytes_of_words, written, written_at}
 use Rattle.words.proofs.Lists.{sum_start, sum_turn, sum_end}
@@ -19,6 +20,7 @@ use Rattle.reading.proofs.Facts.{row_count_lem}
 use Rattle.reading.proofs.RowsLeft.{rows_left}
 use Rattle.assessment.specs.Assessment.{
   most_cents,
+  most_actual,
   Account,
   empty_account,
   raised,
@@ -32,7 +34,7 @@ use Rattle.assessment.specs.Assessment.{
   credit,
   credits,
 }
-use Rattle.assessment.specs.Values.{most_actual, account_in}
+use Rattle.assessment.specs.Values.{account_in}
 use Rattle.assessment.specs.declared.account.Account.{Account as AccountValue}
 use Rattle.assessment.proofs.Limits.{limit_le, most_charge_lem}
 use Rattle.assessment.proofs.Shares.{credits_le}
@@ -47,6 +49,7 @@ use Rattle.ledger.specs.Ledger.{
   ids_in,
 }
 use Rattle.ledger.specs.Values.{before}
+use Rattle.ledger.specs.Walk.{comparisons}
 use Rattle.ledger.specs.declared.layout.Standing.{Standing as StandingValue}
 use Rattle.ledger.proofs.Accounts.{length_accounts, account_is, ids_behind, account_written}
 use Rattle.ledger.proofs.Sound.{read_rises}
@@ -54,10 +57,12 @@ use Rattle.ledger.proofs.WalkLaws.{finds_all}
 use Rattle.settling.specs.Settling.{result_header_bytes, result_bytes, rows_words, assessed_file, posted, posted_all}
 use Rattle.settling.specs.Values.{Passed}
 use Rattle.settling.proofs.Kept.{already_written, written_with, accounts_from, accounts_stand}
+use Rattle.settling.proofs.BudgetLaws.{Budget, budget_begins, row_enough, row_spends}
 use Rattle.settling.proofs.Turns.{
   Walks,
   Found,
   walk_starts,
+  walk_finds,
   accounts_are,
   account_lies,
   in_file,
@@ -215,12 +220,6 @@ unfolding account_words
 length_words [] = refl
 length_words (a ∷ xs) = omega (arith, length_words xs)
 
--- what is left of a mapped list is what is left, mapped
-drop_map : {A B : Type 0} (g : A → B) (i : ℕ) (xs : List A) → drop i (map g xs) ≡ map g (drop i xs)
-drop_map g zero xs = refl
-drop_map g (suc i) [] = refl
-drop_map g (suc i) (x ∷ xs) = drop_map g i xs
-
 -- bytes that are as they were from a place on are so from a later place on
 behind_more : (at to : ℕ) (a b : List ℕ) → at ≤ to → drop at a ≡ drop at b → drop to a ≡ drop to b
 behind_more at to a b h e =
@@ -325,7 +324,7 @@ module _ {b file : List ℕ} {s : StandingValue} {h : HeaderValue} (p : Passed b
       -- the ids of the accounts from j on
       ids_from : drop j (ids_in (ledger_of b)) ≡ account_ids rest
       unfolding ids_in
-      ids_from = drop_map (λ a. a.id) j accounts
+      ids_from = drop-map (λ a. a.id) j accounts
 
       -- the row's account stands behind those passed by
       place_is : k ≡ j + passed
@@ -393,53 +392,82 @@ module _ {b file : List ℕ} {s : StandingValue} {h : HeaderValue} (p : Passed b
                 ∙ posting.left;
           }
 
--- a pass that posts rows to a ledger b, with row i and account j next
-pub record Pass (b file result₀ ledger result : List ℕ) (cents i j : ℕ) : Type 0 where
+-- a pass that posts rows to a ledger b, with row i and account j next, and what is left of its budget
+pub record Pass (b file result₀ ledger result : List ℕ) (cents i j comparisons_left : ℕ) : Type 0 where
+  pub bytes : Bytes b
+  pub within : j ≤ account_count b
   pub walks : Walks b file i j
   pub posting : Posting b file ledger i j
   pub crediting : Crediting b file result₀ result i
   pub credits : cents + sum (credit (assessed_file b file)) (charged_left b file i) ≡ credits (assessed_file b file)
+  pub budget : Budget b file i j comparisons_left
 
--- a ledger b and a file that grounds 6 to 14 do not refuse, of a pool that 16 does not refuse
-module _ {b file : List ℕ} {s : StandingValue} {h : HeaderValue} (p : Passed b s file h) (bytes : Bytes b)
-    (small : pool (assessed_file b file) ≤ most_cents) where
+-- a ledger b and a file that grounds 6 to 14 do not refuse
+module _ {b file : List ℕ} {s : StandingValue} {h : HeaderValue} (p : Passed b s file h) where
   -- the interval that the file makes of the ledger
   abbrev x : Assessed
   x = assessed_file b file
 
   -- the pass begins with all rows, where their words stand without credits
-  pub pass_starts : {result : List ℕ} → result_bytes h.rows ≤ length result
-      → result ≡ written_at result_header_bytes (row_words x.rows) result → Pass b file result b result 0 0 0
+  pub pass_starts : {result : List ℕ} {j budget : ℕ} → Bytes b → result_bytes h.rows ≤ length result
+      → result ≡ written_at result_header_bytes (row_words x.rows) result
+      → j ≡ 0 → budget ≡ h.rows + s.accounts → Pass b file result b result 0 0 j budget
   unfolding result_bytes credits
-  pass_starts {result} room same = record {
-    walks = walk_starts p;
-    posting = posting_starts b file;
-    crediting = crediting_starts b file result (omega arith) same;
-    credits = sum_start (credit x) (charged_start b file);
-  }
+  pass_starts {result} {j} {budget} bytes room same first all =
+      let P : ℕ → Type 0 = λ j. Pass b file result b result 0 0 j budget in
+      subst P (sym first) (record {
+        bytes = bytes;
+        within = omega arith;
+        walks = walk_starts p;
+        posting = posting_starts b file;
+        crediting = crediting_starts b file result (omega arith) same;
+        credits = sum_start (credit x) (charged_start b file);
+        budget = budget_begins p.tabled.read (accounts_are p) refl all;
+      })
 
-  module _ {result₀ ledger result : List ℕ} {cents i j : ℕ} (pass : Pass b file result₀ ledger result cents i j) where
+  module _ {result₀ ledger result : List ℕ} {cents i j budget : ℕ}
+      (pass : Pass b file result₀ ledger result cents i j budget) where
+    -- the ledger is as long as it was
+    pub ledger_long : length ledger ≡ length b
+    ledger_long = pass.posting.bytes
+
+    -- and so is the result
+    pub result_long : length result ≡ length result₀
+    result_long = pass.crediting.long
+
+    -- as many accounts stand in the ledger as before
+    pub accounts_kept : s.accounts ≡ account_count ledger
+    accounts_kept = accounts_are p ∙ sym (count_kept p pass.bytes pass.posting)
+
+    -- the pass stands at one of them, or behind the last
+    pub next_within : j ≤ s.accounts
+    next_within = omega (arith, pass.within, accounts_are p)
+
+    -- and each lies within it
+    pub accounts_lie : ledger_bytes s.accounts ≤ length ledger
+    accounts_lie = omega (arith, p.ledger_read.room, ledger_long)
+
     -- where no row is left, all is posted and credited
-    pub pass_ends : h.rows ≤ i → j ≤ account_count b
+    pub pass_ends : h.rows ≤ i
         → (cents ≡ credits x)
         × ((ledger ≡ written_at ledger_header_bytes (account_words (map (posted_all x x.rows) (ledger_of b).accounts)) b)
         × (result ≡ written_at result_header_bytes (rows_words (credit x) x.rows) result₀))
-    pass_ends end few =
+    pass_ends end =
         let all : (header_of file).row_count ≤ i = omega (arith, row_count_lem p.tabled.read) in (
           sum_end (credit x) cents (credits x) (charged_end b file i all) pass.credits,
-          (posting_ends p bytes pass.posting all few, crediting_ends b file pass.crediting all),
+          (posting_ends p pass.bytes pass.posting all pass.within, crediting_ends b file pass.crediting all),
         )
+
+    -- row i, charged
+    abbrev one : ChargedRow
+    one = charged_at b file i
+
+    -- the rows behind it
+    abbrev more : List ChargedRow
+    more = charged_left b file (i + 1)
 
     -- row i is posted
     module _ (taken : i < h.rows) where
-      -- the row, charged
-      abbrev one : ChargedRow
-      one = charged_at b file i
-
-      -- the rows behind it
-      abbrev more : List ChargedRow
-      more = charged_left b file (i + 1)
-
       -- its figures and its charge keep their bounds
       one_bounded : Bounded one
       one_bounded = charged_bounded p (row_at file i) (row_within p taken)
@@ -448,83 +476,154 @@ module _ {b file : List ℕ} {s : StandingValue} {h : HeaderValue} (p : Passed b
       one_stands : drop (result_bytes i) result ≡ bytes_of_words 8 (row_words (one ∷ more)) ++ pass.crediting.tail
       one_stands = row_stands b file pass.crediting (in_file p taken)
 
-      -- the bonus that is read there is its own
-      pub bonus_read : {kw : ℕ} → kw ≡ word64 (drop (result_bytes i) result) 5
-          → (kw ≡ one.figures.bonus) × (kw ≤ most_actual)
-      bonus_read read =
-          let most = one_bounded.figures.bonus in
-          let own = bonus_stands i one more pass.crediting.tail result one_stands (omega (arith, most)) in
-          (read ∙ own, omega (arith, read, own, most))
+      -- within it
+      pub one_lies : result_bytes h.rows ≤ length result₀ → result_bytes (i + 1) ≤ length result
+      unfolding result_bytes
+      one_lies room = omega (arith, result_long)
 
-      -- and so is the charge
-      pub charge_read : {charge : ℕ} → charge ≡ word64 (drop (result_bytes i) result) 6 → charge ≡ one.charge
-      charge_read read =
+      -- the bonus that is read there is its own
+      bonus_own : {kw : ℕ} → kw ≡ word64 (drop (result_bytes i) result) 5 → kw ≡ one.figures.bonus
+      bonus_own read =
+          let most = one_bounded.figures.bonus in
+          read ∙ bonus_stands i one more pass.crediting.tail result one_stands (omega (arith, most))
+
+      -- and keeps its bound
+      pub bonus_few : {kw : ℕ} → kw ≡ word64 (drop (result_bytes i) result) 5 → kw ≤ most_actual
+      bonus_few read = omega (arith, bonus_own read, one_bounded.figures.bonus)
+
+      -- so is the charge
+      charge_own : {charge : ℕ} → charge ≡ word64 (drop (result_bytes i) result) 6 → charge ≡ one.charge
+      charge_own read =
           let fits : one.charge < 2 ^ 64 = omega (arith, one_bounded.charge, most_charge_lem) in
           read ∙ charge_stands i one more pass.crediting.tail result one_stands fits
 
-      -- the share of its bonus is its credit
-      pub credit_is : {given cash total kw : ℕ} → cash ≡ pool x → total ≡ total_bonus x → kw ≡ one.figures.bonus
-          → given ≡ share cash total kw → given ≡ credit x one
-      unfolding credit
-      credit_is cash_is total_is kw_is given_is = given_is ∙ (λ k. share (cash_is k) (total_is k) (kw_is k))
+      -- the share of its bonus of a pool that ground 16 does not refuse
+      module _ {cash : ℕ} (cash_is : cash ≡ pool x) (few : cash ≤ most_cents) {total : ℕ} (total_is : total ≡ total_bonus x)
+          {kw : ℕ} (bonus : kw ≡ word64 (drop (result_bytes i) result) 5)
+          {given : ℕ} (shared : given ≡ share cash total kw) where
+        -- is its credit
+        credit_is : given ≡ credit x one
+        unfolding credit
+        credit_is = shared ∙ (λ k. share (cash_is k) (total_is k) (bonus_own bonus k))
 
-      module _ {given : ℕ} (credited : given ≡ credit x one) where
         -- it is left to add to the sum so far
         credits_next : cents + given + sum (credit x) more ≡ credits x
         credits_next =
             let turn = charged_turn b file i (in_file p taken) in
-            sum_turn (credit x) cents (credits x) given turn pass.credits credited
+            sum_turn (credit x) cents (credits x) given turn pass.credits credit_is
 
         -- so the sum with it is at most the most cents
-        pub credits_more : cents + given ≤ most_cents
-        credits_more = omega (arith, credits_next, credits_le x, small)
+        credits_most : cents + given ≤ most_cents
+        credits_most = omega (arith, credits_next, credits_le x, cash_is)
 
-        -- the walk finds its account, which is read as a and raised as r
-        module _ {k : ℕ} (found : Found b file i j k) {charge : ℕ} (charged : charge ≡ one.charge)
-            (row : RowValue) (read : row_in row ≡ row_words_at file i) (a r : AccountValue)
-            (account : account_in a ≡ account_at (drop (ledger_bytes k) ledger))
-            (raise : account_in r ≡ raised row.committed (account_in a)) where
-          -- the account as it was before the interval
-          abbrev own : Account
-          own = account_at (drop (ledger_bytes k) b)
+        -- and fits
+        pub credits_more : cents + given < 2 ^ 64
+        credits_more = omega (arith, credits_most)
 
-          -- is raised
-          as_raised : account_in r ≡ raised (row_at file i).committed own
-          unfolding row_in row_of row_with
-          as_raised =
-              let same = account ∙ account_kept p bytes pass.posting (in_file p taken) pass.walks found in
-              raise ∙ (λ k. raised (read k).committed (same k))
+      -- its row is read
+      module _ (row : RowValue) (read : row_in row ≡ row_words_at file i) where
+        -- the ids from account j on are those of the ledger as it was
+        ids_same : drop j (ids_in (ledger_of ledger)) ≡ drop j (ids_in (ledger_of b))
+        ids_same = ids_kept p pass.bytes pass.posting
 
-          -- charge and credit added to its sums fit
-          pub account_fits : (r.charged.0 + charge < 2 ^ 64) × (r.credited.0 + given < 2 ^ 64)
-          unfolding account_in raised
-          account_fits =
-              let within = account_within p taken found in
-              let limit = limit_le (ledger_of b).terms own.largest (terms_within p) within.largest in
-              let sums = ap (λ a. a.charged) as_raised in (
-                omega (arith, sums, within.charged, limit, charged, one_bounded.charge, most_charge_lem),
-                omega (arith, ap (λ a. a.credited) as_raised, within.credited, credits_more),
-              )
+        -- the comparisons that find its account are left of the budget
+        pub budget_lasts : comparisons row.id (drop j (ids_in (ledger_of ledger))) ≤ budget
+        unfolding row_in
+        budget_lasts = row_enough p.tabled.read pass.budget taken read ids_same
 
-          -- with both added it is as the row leaves it
-          posted_own : posted x one own ≡ added one.charge (credit x one) (raised (row_at file i).committed own)
-          unfolding posted charged_of charged_row row_of row_with
-          posted_own = rw (eq-eqb (row_words_at file i).id own.id (sym found.id))
+        -- the walk goes on to account k for it
+        module _ {k : ℕ} (place : k ≡ j + before row.id (drop j (ids_in (ledger_of ledger)))) where
+          -- it finds the row's account
+          found : Found b file i j k
+          found = walk_finds p taken row pass.walks read ids_same place
 
-          -- once it is written, and the credit, the rows from i + 1 on are left
-          pub pass_turn : (out : AccountValue) → account_in out ≡ added charge given (account_in r)
-              → result_bytes h.rows ≤ length result₀ → {ledger' result' : List ℕ} {sums : ℕ}
-              → ledger' ≡ written_at (ledger_bytes k) (account_words (account_in out ∷ [])) ledger
-              → result' ≡ written_at (result_bytes i + 56) (given ∷ []) result → sums ≡ cents + given
-              → Pass b file result₀ ledger' result' sums (i + 1) (k + 1)
-          unfolding result_bytes
-          pass_turn out adds room put write sum =
-              let on = in_file p taken in
-              let posts = adds ∙ (λ k. added (charged k) (credited k) (as_raised k)) ∙ sym posted_own in
-              record {
-                walks = found.next;
-                posting = posting_turn p bytes pass.posting on pass.walks found (account_in out) posts put;
-                crediting =
-                    crediting_turn b file pass.crediting on (omega (arith, pass.crediting.long)) credited write;
-                credits = rw sum credits_next;
-              }
+          -- which is one of the accounts
+          pub account_there : {accounts : ℕ} → accounts ≡ account_count ledger → k < accounts
+          account_there count = omega (arith, found.within, count, accounts_are p, accounts_kept)
+
+          -- and lies within the ledger
+          pub account_inside : ledger_bytes (k + 1) ≤ length ledger
+          account_inside = omega (arith, account_lies p found.within, ledger_long)
+
+          -- it is read as a, and raised as r
+          module _ (a r : AccountValue) (account : account_in a ≡ account_at (drop (ledger_bytes k) ledger))
+              (raise : account_in r ≡ raised row.committed (account_in a)) where
+            -- the account as it was before the interval
+            abbrev own : Account
+            own = account_at (drop (ledger_bytes k) b)
+
+            -- is raised
+            as_raised : account_in r ≡ raised (row_at file i).committed own
+            unfolding row_in row_of row_with
+            as_raised =
+                let same = account ∙ account_kept p pass.bytes pass.posting (in_file p taken) pass.walks found in
+                raise ∙ (λ k. raised (read k).committed (same k))
+
+            -- the charge added to its sum fits
+            pub charged_fits : {charge : ℕ} → charge ≡ word64 (drop (result_bytes i) result) 6
+                → r.charged.0 + charge < 2 ^ 64
+            unfolding account_in raised
+            charged_fits written =
+                let within = account_within p taken found in
+                let limit = limit_le (ledger_of b).terms own.largest (terms_within p) within.largest in
+                let sums = ap (λ a. a.charged) as_raised in
+                omega (arith, sums, within.charged, limit, charge_own written, one_bounded.charge, most_charge_lem)
+
+            module _ {cash : ℕ} (cash_is : cash ≡ pool x) (few : cash ≤ most_cents) {total : ℕ}
+                (total_is : total ≡ total_bonus x) {kw : ℕ} (bonus : kw ≡ word64 (drop (result_bytes i) result) 5)
+                {given : ℕ} (shared : given ≡ share cash total kw) where
+              -- and so does the credit
+              pub credited_fits : r.credited.0 + given < 2 ^ 64
+              unfolding account_in raised
+              credited_fits =
+                  let within = account_within p taken found in
+                  let most = credits_most cash_is few total_is bonus shared in
+                  omega (arith, ap (λ a. a.credited) as_raised, within.credited, most)
+
+              -- with both added it is as the row leaves it
+              posted_own : posted x one own ≡ added one.charge (credit x one) (raised (row_at file i).committed own)
+              unfolding posted charged_of charged_row row_of row_with
+              posted_own = rw (eq-eqb (row_words_at file i).id own.id (sym found.id))
+
+              -- once it is written, and the credit, the rows from i + 1 on are left, and the accounts behind the row's
+              pub pass_turn : {charge : ℕ} → charge ≡ word64 (drop (result_bytes i) result) 6
+                  → (out : AccountValue) → account_in out ≡ added charge given (account_in r)
+                  → result_bytes h.rows ≤ length result₀ → {ledger' result' : List ℕ} {sums spent next left : ℕ}
+                  → ledger' ≡ written_at (ledger_bytes k) (account_words (account_in out ∷ [])) ledger
+                  → result' ≡ written_at (result_bytes i + 56) (given ∷ []) result → sums ≡ cents + given
+                  → spent ≡ budget - comparisons row.id (drop j (ids_in (ledger_of ledger)))
+                  → next ≡ k + 1 → left ≡ spent → Pass b file result₀ ledger' result' sums (i + 1) next left
+              unfolding row_in
+              pass_turn written out adds room {ledger'} {result'} {sums} {spent} {next} {left} put write sum take on rest =
+                  let low = in_file p taken in
+                  let mine = charge_own written in
+                  let own_credit = credit_is cash_is few total_is bonus shared in
+                  let posts = adds ∙ (λ k. added (mine k) (own_credit k) (as_raised k)) ∙ sym posted_own in
+                  let P : ℕ → Type 0 = λ next. Pass b file result₀ ledger' result' sums (i + 1) next left in
+                  subst P (sym on) (record {
+                    bytes = pass.bytes;
+                    within = omega (arith, found.within);
+                    walks = found.next;
+                    posting = posting_turn p pass.bytes pass.posting low pass.walks found (account_in out) posts put;
+                    crediting = crediting_turn b file pass.crediting low (one_lies room) own_credit write;
+                    credits = rw sum (credits_next cash_is few total_is bonus shared);
+                    budget = row_spends p.tabled.read pass.budget taken read ids_same place take refl rest;
+                  })
+
+-- by these, search finds what a turn of the pass knows
+pub ruleset turns = (
+  ledger_long,
+  result_long,
+  accounts_kept,
+  next_within,
+  accounts_lie,
+  one_lies,
+  bonus_few,
+  credits_more,
+  budget_lasts,
+  account_there,
+  account_inside,
+  charged_fits,
+  credited_fits,
+  pass_turn,
+)

@@ -19,6 +19,7 @@ use Rattle.reading.proofs.RowsLeft.{rows_left, rows_start, rows_turn, rows_end}
 use Rattle.reading.proofs.SoundRows.{rows_sound}
 use Rattle.assessment.specs.Assessment.{
   most_cents,
+  most_actual,
   ratio_of,
   ChargedRow,
   charged_row,
@@ -27,8 +28,10 @@ use Rattle.assessment.specs.Assessment.{
   charges,
   total_bonus,
   pool,
+  credits,
+  carried_on,
 }
-use Rattle.assessment.specs.Values.{most_actual, most_charge}
+use Rattle.assessment.specs.Values.{most_charge}
 use Rattle.assessment.proofs.Promises.{FiguresIn, figures_in_lem}
 use Rattle.assessment.proofs.Limits.{charge_most}
 use Rattle.ledger.specs.Ledger.{ledger_of}
@@ -135,6 +138,15 @@ module _ {ledger file : List ℕ} {s : StandingValue} {h : HeaderValue} (p : Pas
   unfolding pool assessed_file assessed
   pool_of e = ap₂ ◌+◌ (said ledger s p.ledger_read.says).carried e
 
+  -- so what the code adds up is the pool
+  pub pool_made : {cents cash : ℕ} → cents ≡ charges v → cash ≡ s.carried.0 + cents → cash ≡ pool v
+  pool_made e sum = sum ∙ pool_of e
+
+  -- and what it leaves without the credits is carried on
+  pub rest_made : {cash given rest : ℕ} → cash ≡ pool v → given ≡ credits v → rest ≡ cash - given → rest ≡ carried_on v
+  unfolding carried_on
+  rest_made pool_is given_is left = left ∙ ap₂ ◌-◌ pool_is given_is
+
   -- what the cents carried leave room for
   abbrev room : ℕ
   room = most_cents - s.carried.0
@@ -150,6 +162,8 @@ module _ {ledger file : List ℕ} {s : StandingValue} {h : HeaderValue} (p : Pas
           sym (le-ltb most_cents (pool v) (omega (arith, ltb-false room cents below, pool_of e, p.ledger_read.carried)))
 
   -- and it is not where that is no less than the most charges of a file
-  pub pool_fits : ltb room (most_rows * most_charge) ≡ false → pool v ≤ most_cents
+  pub pool_fits : ltb room (most_rows * most_charge) ≡ false → pool_too_large v ≡ false
+  unfolding pool_too_large
   pool_fits most =
-      omega (arith, ltb-false room (most_rows * most_charge) most, pool_of refl, charges_fit, p.ledger_read.carried)
+      let enough = ltb-false room (most_rows * most_charge) most in
+      le-ltb most_cents (pool v) (omega (arith, enough, pool_of refl, charges_fit, p.ledger_read.carried))

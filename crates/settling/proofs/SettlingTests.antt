@@ -13,6 +13,7 @@ use Rattle.words.proofs.Tests.{facts, not_first, not_second}
 use Rattle.words.proofs.Grounds.{none_applies}
 use Rattle.reading.specs.Block.{Terms, leap_year}
 use Rattle.reading.specs.Interval.{
+  most_rows,
   Header,
   header_of,
   rows_of,
@@ -21,14 +22,13 @@ use Rattle.reading.specs.Interval.{
   tables_misplaced,
   row_grounds,
 }
-use Rattle.reading.specs.Values.{terms_in, header_in, HeaderRead, Scanned}
+use Rattle.reading.specs.Values.{terms_in, header_in, HeaderRead, Tabled, Scanned}
 use Rattle.reading.specs.declared.header.Header.{Header as HeaderValue}
 use Rattle.reading.proofs.Bounds.{terms_in_lem}
-use Rattle.reading.proofs.Facts.{header_read, tabled, row_count_lem}
-use Rattle.ledger.specs.Ledger.{standing_of, ledger_of, not_a_ledger}
+use Rattle.reading.proofs.Facts.{tabled, row_count_lem}
+use Rattle.ledger.specs.Ledger.{ledger_of, not_a_ledger}
 use Rattle.ledger.specs.Values.{standing_in, LedgerRead}
 use Rattle.ledger.specs.declared.layout.Standing.{Standing as StandingValue}
-use Rattle.ledger.proofs.Sound.{ledger_read}
 use Rattle.settling.specs.Settling.{
   result_bytes,
   assessed_file,
@@ -111,71 +111,108 @@ module _ (l f r : List ℕ) {s : StandingValue} {h : HeaderValue} (ledger : Ledg
   unfolding result_too_short
   room_said = ap (λ n. ltb (length r) (result_bytes n)) (sym (row_count_lem file))
 
-  -- terms other than the ledger's are answered 8
-  pub later_8 : other_terms (terms_in s.terms) (header_in h) ≡ true → answered (later_grounds l f r) ≡ 8
-  unfolding answered later_grounds
-  later_8 e = rw (terms_said, e)
+  -- where the code's test of the tables says that they are not misplaced, they lie within the file
+  pub tables_read : {misplaced : Bool} → misplaced ≡ tables_misplaced f → misplaced ≡ false → Tabled f h
+  tables_read tables placed = tabled file (sym tables ∙ placed)
 
-  module _ (e₈ : other_terms (terms_in s.terms) (header_in h) ≡ false) where
-    -- with the ledger's days, a file has those of a year
-    pub days_inside : h.days ≤ leap_year
-    unfolding header_in
-    days_inside =
-        let t = terms_in s.terms in
-        omega (arith, (terms_in_lem t ledger.terms).days, same_days t (header_in h) e₈)
+  -- and there are no more than the most rows
+  pub rows_few_read : {misplaced : Bool} → misplaced ≡ tables_misplaced f → misplaced ≡ false → h.rows ≤ most_rows
+  rows_few_read tables placed = (tables_read tables placed).rows_few
 
-    -- past ground 8, a header out of range is answered 9
-    pub later_9 : header_outside (header_in h) ≡ true → answered (later_grounds l f r) ≡ 9
+  -- the first of grounds 8 to 15 that applies
+  abbrev answer : ℕ
+  answer = answered (later_grounds l f r)
+
+  -- the code's tests, one after the other: of the terms,
+  module _ {other : Bool} (terms : other ≡ other_terms (terms_in s.terms) (header_in h)) where
+    -- terms other than the ledger's are answered 8
+    pub later_8 : other ≡ true → 8 ≡ answer
     unfolding answered later_grounds
-    later_9 e = rw (terms_said, e₈, header_said_lem, e)
+    later_8 e = rw (terms_said, sym terms ∙ e)
 
-    module _ (e₉ : header_outside (header_in h) ≡ false) where
-      -- past grounds 8 and 9, an interval before the ledger's earliest is answered 10
-      pub later_10 : h.interval < s.earliest → answered (later_grounds l f r) ≡ 10
-      unfolding answered later_grounds
-      later_10 k = rw (terms_said, e₈, header_said_lem, e₉, early_said, lt-ltb h.interval s.earliest k)
+    module _ (same : other ≡ false) where
+      -- past ground 8
+      e₈ : other_terms (ledger_of l).terms (header_of f) ≡ false
+      e₈ = terms_said ∙ sym terms ∙ same
 
-      module _ (h₁₀ : s.earliest ≤ h.interval) where
-        -- past grounds 8 to 10, misplaced tables are answered 11
-        pub later_11 : tables_misplaced f ≡ true → answered (later_grounds l f r) ≡ 11
+      -- with the ledger's days, a file has those of a year
+      pub days_inside : h.days ≤ leap_year
+      unfolding header_in
+      days_inside =
+          let t = terms_in s.terms in
+          omega (arith, (terms_in_lem t ledger.terms).days, same_days t (header_in h) (sym terms ∙ same))
+
+      -- of the header,
+      module _ {outside : Bool} (header : outside ≡ header_outside (header_in h)) where
+        -- a header out of range is answered 9
+        pub later_9 : outside ≡ true → 9 ≡ answer
         unfolding answered later_grounds
-        later_11 e = rw (terms_said, e₈, header_said_lem, e₉, early_said, le-ltb h.interval s.earliest h₁₀, e)
+        later_9 e = rw (e₈, header_said_lem, sym header ∙ e)
 
-        module _ (e₁₁ : tables_misplaced f ≡ false) where
-          -- past grounds 8 to 11, row ids that do not rise or have no account are answered 12
-          pub later_12 : row_ids_unknown (ledger_of l) (rows_of f) ≡ true → answered (later_grounds l f r) ≡ 12
+        module _ (inside : outside ≡ false) where
+          -- past ground 9
+          e₉ : header_outside (header_of f) ≡ false
+          e₉ = header_said_lem ∙ sym header ∙ inside
+
+          -- an interval before the ledger's earliest is answered 10
+          pub later_10 : h.interval < s.earliest → 10 ≡ answer
           unfolding answered later_grounds
-          later_12 e = rw (terms_said, e₈, header_said_lem, e₉, early_said, le-ltb h.interval s.earliest h₁₀, e₁₁, e)
+          later_10 k = rw (e₈, e₉, early_said, lt-ltb h.interval s.earliest k)
 
-          module _ (e₁₂ : row_ids_unknown (ledger_of l) (rows_of f) ≡ false) where
-            -- past grounds 8 to 12, the rows and the room decide
-            rows_decide : answered (later_grounds l f r) ≡ answered (row_grounds f ++ ((result_too_short f r, 15) ∷ []))
-            unfolding answered later_grounds
-            rows_decide =
-                rw (terms_said, e₈, header_said_lem, e₉, early_said, le-ltb h.interval s.earliest h₁₀, e₁₁, e₁₂)
+          module _ (due : s.earliest ≤ h.interval) where
+            -- past ground 10
+            e₁₀ : too_early l f ≡ false
+            e₁₀ = early_said ∙ le-ltb h.interval s.earliest due
 
-            -- a ground of the rows, 13, 18 or 14, is answered
-            pub later_rows : (g : ℕ) → g ≡ answered (row_grounds f) → (g ≡ 0 → ⊥) → answered (later_grounds l f r) ≡ g
-            later_rows g e some =
-                let found = ne_eqb (answered (row_grounds f)) 0 (λ z. some (e ∙ z)) in
-                rows_decide ∙ answered_front (row_grounds f) ((result_too_short f r, 15) ∷ []) found ∙ sym e
+            -- of the tables,
+            module _ {misplaced : Bool} (tables : misplaced ≡ tables_misplaced f) where
+              -- misplaced tables are answered 11
+              pub later_11 : misplaced ≡ true → 11 ≡ answer
+              unfolding answered later_grounds
+              later_11 e = rw (e₈, e₉, e₁₀, sym tables ∙ e)
 
-            module _ (e₁₄ : answered (row_grounds f) ≡ 0) where
-              -- past grounds 8 to 14, the room decides
-              room_decides : answered (later_grounds l f r) ≡ cond (ltb (length r) (result_bytes h.rows)) 15 0
-              unfolding any answered row_grounds
-              room_decides =
-                  rows_decide
-                  ∙ answered_later (row_grounds f) ((result_too_short f r, 15) ∷ []) refl e₁₄
-                  ∙ ap (λ (t : Bool). cond t 15 0) room_said
+              -- of the rows' ids,
+              module _ (placed : misplaced ≡ false) {unknown : Bool}
+                  (ids : unknown ≡ row_ids_unknown (ledger_of l) (rows_of f)) where
+                -- row ids that do not rise or have no account are answered 12
+                pub later_12 : unknown ≡ true → 12 ≡ answer
+                unfolding answered later_grounds
+                later_12 e = rw (e₈, e₉, e₁₀, sym tables ∙ placed, sym ids ∙ e)
 
-              -- a result buffer too short for the rows is answered 15
-              pub later_15 : length r < result_bytes h.rows → answered (later_grounds l f r) ≡ 15
-              later_15 k = room_decides ∙ ap (λ (t : Bool). cond t 15 0) (lt-ltb (length r) (result_bytes h.rows) k)
+                -- and of the rows: where no ground before applies, these and the room decide
+                module _ (known : unknown ≡ false) {ground : ℕ} (scan : ground ≡ answered (row_grounds f)) where
+                  rows_decide : answer ≡ answered (row_grounds f ++ ((result_too_short f r, 15) ∷ []))
+                  unfolding answered later_grounds
+                  rows_decide = rw (e₈, e₉, e₁₀, sym tables ∙ placed, sym ids ∙ known)
 
-              -- one with room for the rows is answered 0
-              pub later_0 : result_bytes h.rows ≤ length r → answered (later_grounds l f r) ≡ 0
-              later_0 k = room_decides ∙ ap (λ (t : Bool). cond t 15 0) (le-ltb (length r) (result_bytes h.rows) k)
+                  -- a ground of the rows, 13, 18 or 14, is answered
+                  pub later_rows : (ground ≡ 0 → ⊥) → ground ≡ answer
+                  later_rows some =
+                      let found = ne_eqb (answered (row_grounds f)) 0 (λ z. some (scan ∙ z)) in
+                      sym (rows_decide
+                      ∙ answered_front (row_grounds f) ((result_too_short f r, 15) ∷ []) found ∙ sym scan)
+
+                  -- past it
+                  module _ (scanned : ground ≡ 0) {bytes : ℕ} (room : bytes ≡ result_bytes h.rows) where
+                    -- the room decides
+                    room_decides : answer ≡ cond (ltb (length r) bytes) 15 0
+                    unfolding any answered row_grounds
+                    room_decides =
+                        rows_decide
+                        ∙ answered_later (row_grounds f) ((result_too_short f r, 15) ∷ []) refl (sym scan ∙ scanned)
+                        ∙ ap (λ (t : Bool). cond t 15 0) (room_said ∙ ap (ltb (length r)) (sym room))
+
+                    -- a result buffer too short for the rows is answered 15
+                    pub later_15 : length r < bytes → 15 ≡ answer
+                    later_15 k = sym (room_decides ∙ ap (λ (t : Bool). cond t 15 0) (lt-ltb (length r) bytes k))
+
+                    -- one with room for the rows is answered 0
+                    pub later_0 : bytes ≤ length r → 0 ≡ answer
+                    later_0 k = sym (room_decides ∙ ap (λ (t : Bool). cond t 15 0) (le-ltb (length r) bytes k))
+
+-- by these, search finds what the tests made so far say of grounds 8 to 15
+pub ruleset later =
+    (later_8, days_inside, later_9, later_10, later_11, tables_read, later_12, later_rows, rows_few_read, later_15, later_0)
 
 -- a ledger, a file and a result buffer that grounds 8 to 15 do not refuse
 pub record Unrefused (l f r : List ℕ) : Type 0 where
@@ -205,24 +242,17 @@ unrefused l f r e =
     }
 
 -- where grounds 6 to 15 do not refuse, the values read from ledger and file are as settling relies on
-pub passed : (l f r : List ℕ) {s : StandingValue} {h : HeaderValue} → not_a_ledger l ≡ false → not_a_file f ≡ false
-    → standing_in s ≡ standing_of l
-    → header_in h ≡ header_of f → answered (later_grounds l f r) ≡ 0 → Passed l s f h
-passed l f r e₆ e₇ says states none =
+pub passed : (l f r : List ℕ) {s : StandingValue} {h : HeaderValue} → LedgerRead l s → HeaderRead f h
+    → answered (later_grounds l f r) ≡ 0 → Passed l s f h
+passed l f r ledger file none =
     let u = unrefused l f r none in
     record {
-      ledger_read = ledger_read l _ e₆ says;
-      tabled = tabled (header_read e₇ states) u.tables;
-      header_in_hold = ap header_outside states ∙ u.header;
+      ledger_read = ledger;
+      tabled = tabled file u.tables;
+      header_in_hold = ap header_outside file.says ∙ u.header;
       known = u.ids;
       scanned = u.scanned;
     }
-
--- and the result buffer has room for the rows
-pub result_room : (l f r : List ℕ) (h : HeaderValue) → header_in h ≡ header_of f → answered (later_grounds l f r) ≡ 0
-    → result_bytes h.rows ≤ length r
-unfolding header_in
-result_room l f r h states none = let n = ap (λ h. h.row_count) states in rw n (unrefused l f r none).room
 
 -- what the answer of grounds 6 to 15 says of a call
 module _ (l f r : List ℕ) where

@@ -1,25 +1,24 @@
 // Grounds 8 to 15 of a call of settling: all that need a ledger and a file but no charges.
 
-ghost use Rattle.std.specs.Prelude.{◌≡◌, length};
+ghost use Rattle.std.specs.Prelude.{◌≡◌};
 ghost use Rattle.words.specs.Grounds.{answered};
 ghost use Rattle.reading.specs.Interval.{rows_of};
 ghost use Rattle.reading.specs.Values.{terms_in, header_in, HeaderRead, Tabled};
 ghost use Rattle.ledger.specs.Ledger.{ledger_of};
-ghost use Rattle.ledger.specs.Values.{LedgerRead};
 ghost use Rattle.settling.specs.Settling.{other_terms, row_ids_unknown, later_grounds};
 
 use crate::result::result_bytes;
-use ledger::layout::Standing;
+use ledger::ground_six::Ledger;
 use ledger::walk::Walk;
+use reading::block::Terms;
 use reading::header::{Header, header_outside, tables_misplaced};
 use reading::rows::row_at;
 use reading::scan::scan;
 
 // Ground 8.
-fn other_terms(s: Standing, h: Header) -> bool
-    ensures { result ≡ other_terms (terms_in s.terms) (header_in h) }
+fn other_terms(terms: Terms, h: Header) -> bool
+    ensures { result ≡ other_terms (terms_in terms) (header_in h) }
 {
-    let terms = s.terms;
     if h.net_cone != terms.net_cone {
         return true;
     }
@@ -28,31 +27,30 @@ fn other_terms(s: Standing, h: Header) -> bool
 
 // Ground 12, of a ledger whose ids rise: a row whose id does not rise, or has no account,
 // is not found before the accounts end.
-fn row_ids_unknown(ledger: &[u8], s: Standing, file: &[u8], h: Header) -> bool
-    requires ledger_read { LedgerRead ledger.now s }
-    requires tabled { Tabled file.now h }
-    ensures { result ≡ row_ids_unknown (ledger_of ledger.now) (rows_of file.now) }
+fn row_ids_unknown(ledger: Ledger, file: &[u8], h: Header) -> bool
+    requires { Tabled file.now h }
+    ensures { result ≡ row_ids_unknown (ledger_of ledger.entry.bytes.now) (rows_of file.now) }
 {
-    let mut walk = Walk::start(h.rows, s);
-    let mut i = 0;
-    while i < h.rows {
-        walk = walk.to(ledger, row_at(file, h, i).id);
-        if walk.ended() {
+    let accounts = ledger.accounts();
+    let mut walk = Walk::start(h.rows, accounts.count);
+    for i in 0..h.rows {
+        walk = walk.to(accounts, row_at(file, h, i).id);
+        if walk.ended(accounts) {
             return true;
         }
         walk = walk.on();
-        i += 1;
     }
     false
 }
 
 // The first of grounds 8 to 15 that applies to a ledger and a file, or 0.
-pub fn later_ground(ledger: &[u8], s: Standing, file: &[u8], h: Header, res: &[u8]) -> u32
-    requires ledger_read { LedgerRead ledger.now s }
-    requires header_read { HeaderRead file.now h }
-    ensures { result ≡ answered (later_grounds ledger.now file.now res.now) }
+#[tactic(auto, using(crate::proofs::SettlingTests::later))]
+pub fn later_ground(ledger: Ledger, file: &[u8], h: Header, res: &[u8]) -> u32
+    requires { HeaderRead file.now h }
+    ensures { result ≡ answered (later_grounds ledger.entry.bytes.now file.now res.now) }
 {
-    if other_terms(s, h) {
+    let s = ledger.standing;
+    if other_terms(s.terms, h) {
         return 8;
     }
     if header_outside(h) {
@@ -64,7 +62,7 @@ pub fn later_ground(ledger: &[u8], s: Standing, file: &[u8], h: Header, res: &[u
     if tables_misplaced(file, h) {
         return 11;
     }
-    if row_ids_unknown(ledger, s, file, h) {
+    if row_ids_unknown(ledger, file, h) {
         return 12;
     }
     let ground = scan(file, h);

@@ -1,17 +1,19 @@
 // The result's words, written into the caller's buffer. No other module knows where a word of it stands.
 
+#![tactic(auto, unfolding(crate::specs::Settling::result_bytes))]
+
 ghost use Rattle.std.specs.Prelude.{◌≡◌, cond, ◌∷◌, [], ◌+◌, ◌≤◌, ◌<◌, length, drop, ltb};
 ghost use Rattle.words.specs.Words.{word64, written, written_at};
 ghost use Rattle.reading.specs.Interval.{most_rows};
 ghost use Rattle.assessment.specs.Assessment.{printed_ratio};
-ghost use Rattle.assessment.specs.Values.{most_numerator, ratio_in};
+ghost use Rattle.assessment.specs.Values.{ratio_in};
 ghost use Rattle.settling.specs.Settling.{result_header_bytes, credit_offset, result_bytes};
 
 use assessment::ratio::Ratio;
 use assessment::row::Figures;
 use assessment::units::{Cents, Kilowatts};
 use reading::header::MOST_ROWS;
-use words::{number64, put64, store64};
+use words::{Word, put, store};
 
 const SUMMARY_BYTES: usize = 64;
 
@@ -20,32 +22,32 @@ const RESULT_ROW_BYTES: usize = 64;
 // Bytes of a result of the most rows.
 pub const MOST_RESULT_BYTES: usize = SUMMARY_BYTES + RESULT_ROW_BYTES * MOST_ROWS;
 
+// The sums over an interval's rows.
+#[derive(Clone, Copy)]
+pub struct Sums {
+    pub charges: Cents,
+    pub bonus: Kilowatts,
+}
+
 // The interval's figures.
 #[derive(Clone, Copy)]
 pub struct Summary {
     pub ratio: Ratio,
-    pub charges: Cents,
+    pub sums: Sums,
     pub credits: Cents,
     pub carried: Cents,
-    pub bonus: Kilowatts,
     pub rows: usize,
 }
 
-// What the pool is shared by, and what a row adds to it.
-#[derive(Clone, Copy)]
-pub struct Charged {
-    pub bonus: Kilowatts,
-    pub charge: Cents,
-}
-
-// How a row came out: by how much it fell short, and by how much it exceeded what was expected.
+// How a row came out: by how much it fell short, by how much it exceeded what was expected, and its charge.
 #[derive(Clone, Copy)]
 pub struct Balance {
     pub shortfall: Kilowatts,
     pub bonus: Kilowatts,
+    pub charge: Cents,
 }
 
-// Bytes of a result of so many rows.
+// Bytes of a result of so many rows, and so where the next row begins.
 pub fn result_bytes(rows: usize) -> usize
     requires { rows ≤ most_rows }
     ensures { result ≡ result_bytes rows }
@@ -77,8 +79,8 @@ pub fn write_row(res: &mut [u8], rows: usize, i: usize, f: Figures, charge: Cent
         charge.0,
         0,
     ];
-    let at = SUMMARY_BYTES + RESULT_ROW_BYTES * i;
-    store64(&words, &mut res[at..]);
+    let at = result_bytes(i);
+    store::<u64>(&words, &mut res[at..]);
 }
 
 // The part of a result that starts at the words of row i.
@@ -87,65 +89,52 @@ pub fn row_part(res: &[u8], i: usize) -> &[u8]
     requires i_in_bounds { result_bytes i ≤ length res.now }
     ensures { result.now ≡ drop (result_bytes i) res.now }
 {
-    let at = SUMMARY_BYTES + RESULT_ROW_BYTES * i;
-    &res[at..]
+    &res[result_bytes(i)..]
 }
 
-// The bonus and the charge that were written for row i.
-pub fn charged_at(res: &[u8], i: usize) -> Charged
-    requires i_lt_most_rows { i < most_rows }
-    requires i_in_bounds { result_bytes (i + 1) ≤ length res.now }
+// The shortfall, the bonus and the charge that were written for row i.
+pub fn balance_at(res: &[u8], i: usize) -> Balance
+    requires row_few { i < most_rows }
+    requires row_in_bounds { result_bytes (i + 1) ≤ length res.now }
+    ensures shortfall_value { result.shortfall.0 ≡ word64 (drop (result_bytes i) res.now) 4 }
     ensures bonus_value { result.bonus.0 ≡ word64 (drop (result_bytes i) res.now) 5 }
     ensures charge_value { result.charge.0 ≡ word64 (drop (result_bytes i) res.now) 6 }
 {
-    let at = SUMMARY_BYTES + RESULT_ROW_BYTES * i;
-    Charged {
-        bonus: Kilowatts(number64(res, at + 40)),
-        charge: Cents(number64(res, at + 48)),
+    let at = result_bytes(i);
+    Balance {
+        shortfall: Kilowatts(u64::number(res, at + 32)),
+        bonus: Kilowatts(u64::number(res, at + 40)),
+        charge: Cents(u64::number(res, at + 48)),
     }
-}
-
-// The shortfall and the bonus that were written for row i.
-pub fn balance_at(res: &[u8], i: usize) -> Balance
-    requires i_lt_most_rows { i < most_rows }
-    requires i_in_bounds { result_bytes (i + 1) ≤ length res.now }
-    ensures shortfall_value { result.shortfall.0 ≡ word64 (drop (result_bytes i) res.now) 4 }
-    ensures bonus_value { result.bonus.0 ≡ word64 (drop (result_bytes i) res.now) 5 }
-{
-    let at = SUMMARY_BYTES + RESULT_ROW_BYTES * i;
-    let shortfall = Kilowatts(number64(res, at + 32));
-    let bonus = Kilowatts(number64(res, at + 40));
-    Balance { shortfall, bonus }
 }
 
 // Writes the credit of row i.
 pub fn write_credit(res: &mut [u8], i: usize, credit: Cents)
-    requires i_lt_most_rows { i < most_rows }
-    requires i_in_bounds { result_bytes (i + 1) ≤ length res.old }
+    requires row_few { i < most_rows }
+    requires row_in_bounds { result_bytes (i + 1) ≤ length res.old }
     ensures { res.new ≡ written_at (result_bytes i + credit_offset) (credit.0 ∷ []) res.old }
 {
-    put64(res, SUMMARY_BYTES + RESULT_ROW_BYTES * i + 56, credit.0);
+    put::<u64>(res, result_bytes(i) + 56, credit.0);
 }
 
 // Writes the interval's eight words.
 pub fn write_summary(res: &mut [u8], s: Summary)
-    requires result_header_bytes_in_bounds { result_header_bytes ≤ length res.old }
-    requires numerator_le_most_numerator { s.ratio.numerator.0 ≤ most_numerator }
+    requires { result_header_bytes ≤ length res.old }
     ensures { let words =
-        printed_ratio (ratio_in s.ratio) ∷ s.charges.0 ∷ s.credits.0 ∷ s.carried.0 ∷ s.bonus.0
+        printed_ratio (ratio_in s.ratio) ∷ s.sums.charges.0 ∷ s.credits.0 ∷ s.carried.0 ∷ s.sums.bonus.0
         ∷ s.ratio.numerator.0 ∷ s.ratio.denominator.0 ∷ s.rows ∷ [] in
         res.new ≡ written words res.old }
 {
     let ratio = s.ratio;
     let words = [
         ratio.millionths(),
-        s.charges.0,
+        s.sums.charges.0,
         s.credits.0,
         s.carried.0,
-        s.bonus.0,
+        s.sums.bonus.0,
         ratio.numerator.0,
         ratio.denominator.0,
         s.rows as u64,
     ];
-    store64(&words, res);
+    store::<u64>(&words, res);
 }

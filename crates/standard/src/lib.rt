@@ -2,54 +2,98 @@
 
 #![tactic(auto)]
 
-ghost use Rattle.std.specs.Prelude.{◌≡◌, ◌≤◌, length};
-ghost use Rattle.stream.specs.Stream.{length_bytes};
+ghost use Rattle.std.specs.Prelude.{◌≡◌, true, [], ◌++◌, ◌+◌, ◌≤◌, ◌<◌, length};
+ghost use Rattle.stream.specs.Stream.{length_bytes, next_block};
+ghost use Rattle.stream.specs.Code.{StepTaken};
+ghost use Rattle.reading.specs.Interval.{most_file_bytes};
+ghost use Rattle.listing.specs.Npalist.{most_bytes};
+ghost use Rattle.listing.specs.Room.{most_blocks};
 ghost use Rattle.standard.specs.Input.{ReadNext};
 
-use stream::due_part;
+use arrayvec::ArrayVec;
+use listing::steps::{BLOCK_BYTES, MOST_BLOCKS, Steps, most_bytes, take_step};
+use stream::{LENGTH_BYTES, due_part};
 
 // The descriptors of standard input and output.
 const STDIN: i32 = 0;
 
 const STDOUT: i32 = 1;
 
-// How many bytes were read of a length, how many were then due, and how many of those were read.
+// What was read of a length, how many bytes were then due, and what was read of those.
 #[derive(Clone, Copy)]
-pub struct Read {
-    pub length: usize,
+pub struct Read<'a> {
+    pub head: &'a [u8],
     pub due: usize,
-    pub block: usize,
+    pub block: &'a [u8],
 }
 
-// Reads what there is of a word or a length, and answers how many bytes that were.
-pub fn read_word(word: &mut [u8]) -> usize
-    ensures { result ≤ length word.new }
+// Reads what there is of a word or a length.
+pub fn read_word(word: &mut [u8]) -> &[u8]
+    ensures { length result.now ≤ length word.old }
 {
     let got = io::read_full(STDIN, word);
-    got
+    &word[..got]
 }
 
 // Reads a length and the bytes that are due after it, and no byte more.
 // The kit says of a read how many bytes it brings at most, and not which, nor that it is asked for the whole part.
-pub fn read_next(most: usize, head: &mut [u8], block: &mut [u8]) -> Read
+pub fn read_next<'a>(most: usize, head: &'a mut [u8], block: &'a mut [u8]) -> Read<'a>
     requires head_len { length head.old ≡ length_bytes }
     requires most_in_bounds { most ≤ length block.old }
-    ensures { ReadNext most head.new result }
+    ensures { ReadNext most result }
 {
-    let length = read_word(head);
-    let part = due_part(most, &head[..length], block);
+    let head = read_word(head);
+    let part = due_part(most, head, block);
     let due = part.len();
     let got = io::read_full(STDIN, part);
     Read {
-        length,
+        head,
         due,
-        block: got,
+        block: &part[..got],
     }
 }
 
-// Prints what stands at the front of a buffer, and answers whether that was possible.
-pub fn print(out: &[u8], end: usize) -> bool
-    requires { end ≤ length out.now }
+// Prints bytes, and answers whether that was possible: the kit says no more of it.
+pub fn print(bytes: &[u8]) -> bool {
+    io::write_all(STDOUT, bytes)
+}
+
+// Reads what comes next, by the limit of the block's number, and takes the step on it; answers what was read, and
+// whether to go on.
+pub fn next_step<'a, const ROOM: usize, S: Steps<ROOM>>(
+    steps: &mut S,
+    number: u64,
+    head: &'a mut [u8],
+    block: &'a mut [u8],
+    out: &mut ArrayVec<u8, ROOM>,
+) -> (Read<'a>, bool)
+    requires few_blocks { number < most_blocks }
+    requires head_len { length head.old ≡ length_bytes }
+    requires block_len { length block.old ≡ most_file_bytes }
+    requires held { S.holds number steps.old }
+    requires empty { out.old.items ≡ [] }
+    ensures read_next { ReadNext (most_bytes number) result.0 }
+    ensures taken { StepTaken
+        (S.outcome number steps.old (next_block (most_bytes number) (result.0.head.now ++ result.0.block.now)))
+        steps.new [] out.new.items result.1 }
+    ensures held_on { result.1 ≡ true → S.holds (number + 1) steps.new }
 {
-    io::write_all(STDOUT, &out[..end])
+    let read = read_next(most_bytes(number), head, block);
+    let on = take_step(steps, number, read.head, read.block, out);
+    (read, on)
+}
+
+// Takes step after step from the first block, and prints what each puts, until one stops or the output is closed.
+pub fn run<const ROOM: usize, S: Steps<ROOM>>(steps: &mut S, out: &mut ArrayVec<u8, ROOM>)
+    requires { S.holds 0 steps.old }
+{
+    let mut head = [0; LENGTH_BYTES];
+    let mut block = [0; BLOCK_BYTES];
+    for number in 0..MOST_BLOCKS {
+        out.clear();
+        let (_, on) = next_step(steps, number, &mut head, &mut block, out);
+        if !print(out.as_slice()) || !on {
+            return;
+        }
+    }
 }

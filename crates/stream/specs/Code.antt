@@ -1,9 +1,7 @@
 -- What the code's answers mean.
-use Rattle.std.specs.Prelude.{ℕ, ◌≤◌, ◌≡◌, List, [], length}
-use Rattle.words.specs.Words.{placed_at}
+use Rattle.std.specs.Prelude.{ℕ, ◌≡◌, List, [], ◌++◌, Bool}
 use Rattle.stream.specs.declared.Found.{Found}
 use Rattle.stream.specs.declared.Found.TheVariants.{Ended, Cut, OverLong, Block}
-use Rattle.stream.specs.declared.Taken.{Taken}
 use Rattle.stream.specs.Stream.{End, Next}
 use Rattle.stream.specs.Steps.{Outcome}
 
@@ -14,10 +12,8 @@ found_as Cut b = Next.stop End.cut
 found_as OverLong b = Next.stop End.over_long
 found_as Block b = Next.block b []
 
--- a step as code takes it: the state, the bytes to print at the front of a buffer, where they end, and whether to go on
-pub record StepTaken {S : Type 0} (o : Outcome ℕ S) (state : S) (before after : List ℕ) (taken : Taken) : Type 0 where
+-- a step as code takes it: the state, what it puts behind the bytes to print, and whether to go on
+pub record StepTaken {S : Type 0} (o : Outcome ℕ S) (state : S) (before after : List ℕ) (on : Bool) : Type 0 where
   pub leaves : state ≡ o.state
-  pub puts : after ≡ placed_at 0 o.printed before
-  pub ends : taken.end ≡ length o.printed
-  pub goes_on : taken.on ≡ o.on
-  pub fits : taken.end ≤ length after
+  pub puts : after ≡ before ++ o.printed
+  pub goes_on : on ≡ o.on

@@ -6,7 +6,7 @@ ghost use Rattle.std.specs.Prelude.{◌≡◌, ◌++◌, [], ◌≤◌, length, 
 ghost use Rattle.stream.specs.Stream.{length_bytes, next_block, stops as stops_at, bytes_due};
 ghost use Rattle.stream.specs.Code.{found_as};
 
-use words::number32;
+use words::Word;
 
 pub const LENGTH_BYTES: usize = 4;
 
@@ -33,13 +33,6 @@ impl Found {
     }
 }
 
-// What a step leaves to its program: the end of the bytes to print, and whether to go on.
-#[derive(Clone, Copy)]
-pub struct Taken {
-    pub end: usize,
-    pub on: bool,
-}
-
 // How many bytes are due after a length, or after what was read of it, `head`.
 pub fn bytes_due(most: usize, head: &[u8]) -> usize
     ensures value { result ≡ bytes_due most head.now }
@@ -48,7 +41,7 @@ pub fn bytes_due(most: usize, head: &[u8]) -> usize
     if head.len() < LENGTH_BYTES {
         return 0;
     }
-    let n = number32(head, 0) as usize;
+    let n = u32::number(head, 0) as usize;
     if most < n {
         return 0;
     }
@@ -78,7 +71,7 @@ pub fn next_block(most: usize, head: &[u8], block: &[u8]) -> Found
     if got < LENGTH_BYTES {
         return Found::Cut;
     }
-    let bytes = number32(head, 0) as usize;
+    let bytes = u32::number(head, 0) as usize;
     if most < bytes {
         return Found::OverLong;
     }

@@ -8,7 +8,7 @@ ghost use Rattle.figures.specs.Room.{case_file_bytes, case_point_words, case_row
 use figures::layout::Header;
 use figures::print::figure;
 use npa::{npa_open, npa_settle};
-use words::{number64, store32, store64};
+use words::{Word, store};
 
 // Words of a row in the result.
 pub const ACTUAL: usize = 1;
@@ -32,7 +32,7 @@ pub fn header(cone: u64, days: u64, rows: u64, points: u64) -> Header {
 fn opened(cone: u64, days: u64) -> [u8; 160] {
     let mut block = [0u8; 32];
     let words = [1, cone, days, 3, 20, 1, 2, 3];
-    store32(&words, &mut block);
+    store::<u32>(&words, &mut block);
     let mut ledger = [255u8; 160];
     npa_open(&block, &mut ledger);
     ledger
@@ -44,7 +44,7 @@ pub fn charged(cone: u64, days: u64, largest: u64, cents: u64) -> [u8; 160] {
     let words = [
         1, cone, days, 0, cents, 3, 8, 0, 1, largest, cents, 0, 2, 0, 0, 0, 3, 0, 0, 0,
     ];
-    store64(&words, &mut ledger);
+    store::<u64>(&words, &mut ledger);
     ledger
 }
 
@@ -54,9 +54,9 @@ fn put_file(file: &mut [u8], header: Header, rows: &[u64], points: &[u64])
     requires rows_len_bound { length rows.now ≤ case_row_words }
     requires points_len_bound { length points.now ≤ case_point_words }
 {
-    store32(&header, file);
-    store32(rows, &mut file[40..]);
-    store32(points, &mut file[208..]);
+    store::<u32>(&header, file);
+    store::<u32>(rows, &mut file[40..]);
+    store::<u32>(points, &mut file[208..]);
 }
 
 // The bytes of such a file.
@@ -99,7 +99,7 @@ pub fn show_in(
     let mut books = ledger;
     let mut result = [255u8; 256];
     npa_settle(&mut books, &file_of(header, rows, points), &mut result);
-    figure(label, number64(&result, 64 + 64 * row + 8 * word));
+    figure(label, u64::number(&result, 64 + 64 * row + 8 * word));
 }
 
 // The same of a ledger that was opened on the header's terms.
@@ -122,5 +122,5 @@ pub fn show_carried(label: &[u8], ledger: [u8; 160], header: Header, rows: &[u64
     let mut books = ledger;
     let mut result = [255u8; 256];
     npa_settle(&mut books, &file_of(header, rows, &[]), &mut result);
-    figure(label, number64(&books, 32));
+    figure(label, u64::number(&books, 32));
 }

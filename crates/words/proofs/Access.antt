@@ -13,7 +13,6 @@ use native.Mathlib.Nat.{
   div-one,
   div-div-eq-div-mul,
 }
-use native.Mathlib.Numerals.{add-one}
 use native.Mathlib.Omega.{arith}
 use borrow.Author.Rules.{part_to_end}
 use borrow.Rule.Slice.PartMut.{put_mid}
@@ -47,13 +46,16 @@ split_number (suc m) n b at =
     ∙ ap (λ rest. get_or b at 0 + 256 * rest) (split_number m n b (suc at))
     ∙ rw (first_byte m b at, pow-succ' 256 m, mul_assoc 256 (256 ^ m), suc-add at m, add-suc at m) (omega arith)
 
--- a number of two bytes
-pub two_bytes : (b : List ℕ) (at : ℕ) → number_at 2 b at ≡ get_or b at 0 + 256 * get_or b (at + 1) 0
-two_bytes b at =
-    let low = first_byte 1 b at in
-    let high = first_byte 0 b (suc at) in
-    let none : number_at 0 b (suc (suc at)) ≡ 0 = unfold number_at number in refl in
-    rw add-one (omega (arith, low, high, none))
+-- a number of four bytes
+pub four_bytes : (b : List ℕ) (at : ℕ)
+    → number_at 4 b at ≡ get_or b at 0 + 256 * get_or b (at + 1) 0 + 65536 * get_or b (at + 2) 0 + 16777216 * get_or b (at + 3) 0
+four_bytes b at =
+    let none : number_at 0 b (suc (suc (suc (suc at)))) ≡ 0 = unfold number_at number in refl in
+    let one : at + 1 ≡ suc at = omega arith in
+    let two : at + 2 ≡ suc (suc at) = omega arith in
+    let three : at + 3 ≡ suc (suc (suc at)) = omega arith in
+    rw (one, two, three)
+    (omega (arith, first_byte 3 b at, first_byte 2 b (suc at), first_byte 1 b (suc (suc at)), first_byte 0 b (suc (suc (suc at))), none))
 
 -- a number in a part of a buffer stands further on in the whole
 pub number_at_drop : (n p : ℕ) (b : List ℕ) (at : ℕ) → number_at n (drop p b) at ≡ number_at n b (p + at)
@@ -148,10 +150,10 @@ written_behind ws vs b x y room front behind =
     behind ∙ ap (written_at (8 * length ws) vs) front ∙ (rw zero-add at more) room
 
 -- a buffer whose part from a place on was lent, and had words written at its front, has them at the place
-pub part_written : (at : ℕ) (ws b part : List ℕ) → part ≡ written ws (take (length b - at) (drop at b))
+pub part_written : (at : ℕ) (ws b part : List ℕ) → part ≡ placed_at 0 (bytes_of_words 8 ws) (take (length b - at) (drop at b))
     → put_mid at (length b - at) b part ≡ written_at at ws b
 unfolding written_at
 part_written at ws b part put =
     let end : length (drop at b) ≤ length b - at = omega (arith, length-drop at b) in
     let none : drop (length b - at) (drop at b) ≡ [] = drop_of_length-le (drop at b) end in
-    ap (λ l. take at b ++ l) (ap (λ l. part ++ l) none ∙ append-nil part ∙ put ∙ ap (written ws) (part_to_end b at))
+    ap (λ l. take at b ++ l) (ap (λ l. part ++ l) none ∙ append-nil part ∙ put ∙ sym (front_placed ws (take (length b - at) (drop at b))) ∙ ap (written ws) (part_to_end b at))

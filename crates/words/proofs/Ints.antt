@@ -1,5 +1,5 @@
 -- Signed numbers: what a local holds of one, and differences as natural numbers, each law by cases on the signs.
-use Prim.Native.Nat.{ℕ, zero, suc, ◌+◌, ◌-◌, ◌%◌, ◌≤◌, ◌<◌}
+use Prim.Native.Nat.{ℕ, zero, suc, ◌+◌, ◌-◌, ◌≤◌, ◌<◌}
 use mathlib.Core.Bool.{Bool, true, false, cond}
 use mathlib.Core.Path.{◌≡◌, refl, sym, ap, subst, ◌∙◌}
 use native.Mathlib.Omega.{arith}
@@ -7,7 +7,7 @@ use borrow.Author.Tests.{leb-true, leb-false, ltb-true, ltb-false, le-leb, le-lt
 use lib.Dec.{T, ltb}
 use lib.IntN.{ℤ, pos, negsuc, sub_ℕ, nat_abs, ◌+ℤ◌, ◌-ℤ◌}
 use lib.Signed.{le_z, mag}
-use mir.Syntax.{w64}
+use mir.Syntax.{w32, w64}
 use mir.Val.{to_z, of_z}
 use mir.ValLaws.{to_z-of_z}
 use Rattle.words.specs.Words.{signed}
@@ -83,31 +83,14 @@ less_larger : (x n : ℕ) → x < n → pos x -ℤ pos n ≡ negsuc (n - suc x)
 less_larger x zero h = absurd (omega arith)
 less_larger x (suc n) h = rw (lt-ltb x (suc n) h)
 
--- a larger number less a smaller one
-less_smaller : (x n : ℕ) → n ≤ x → pos x -ℤ pos n ≡ pos (x - n)
-less_smaller x zero h = ap pos (omega arith)
-less_smaller x (suc n) h = rw (le-ltb x (suc n) h)
-
--- moved up by half of all words, and round where they end, then down again, a word is the signed number that it holds
-pub turned_round : (w : ℕ) → w < 4294967296 → pos ((w + 2147483648) % 4294967296) -ℤ pos 2147483648 ≡ signed w
+-- what the bits of a word are as a signed number
+pub signed_bits : (w : ℕ) → w < 4294967296 → to_z w32 w ≡ signed w
 unfolding signed
-turned_round w h = by (ltb w 2147483648) refl
+signed_bits w h = by (ltb w 2147483648)
   where
-    by : (t : Bool) → ltb w 2147483648 ≡ t
-        → pos ((w + 2147483648) % 4294967296) -ℤ pos 2147483648 ≡ cond t (pos w) (pos w -ℤ pos 4294967296)
-    by true e =
-        let low = ltb-true w 2147483648 e in
-        let same : (w + 2147483648) % 4294967296 ≡ w + 2147483648 = omega arith in
-        let back : w + 2147483648 - 2147483648 ≡ w = omega arith in
-        ap (λ x. pos x -ℤ pos 2147483648) same ∙ less_smaller (w + 2147483648) 2147483648 (omega arith) ∙ ap pos back
-    by false e =
-        let high = ltb-false w 2147483648 e in
-        let round : (w + 2147483648) % 4294967296 ≡ w - 2147483648 = omega arith in
-        let far : 2147483648 - suc (w - 2147483648) ≡ 4294967296 - suc w = omega arith in
-        ap (λ x. pos x -ℤ pos 2147483648) round
-        ∙ less_larger (w - 2147483648) 2147483648 (omega arith)
-        ∙ ap negsuc far
-        ∙ sym (less_larger w 4294967296 h)
+    by : (t : Bool) → cond t (pos w) (negsuc (4294967296 - suc w)) ≡ cond t (pos w) (pos w -ℤ pos 4294967296)
+    by true = refl
+    by false = sym (less_larger w 4294967296 h)
 
 -- a signed number of 32 bits has a size below 2^31
 pub signed_size : (w : ℕ) → w < 4294967296 → mag (signed w) < 2147483648

@@ -1,12 +1,12 @@
 -- The laws of bytes placed in a buffer: none, one, some behind others, a text, and words of any width.
-use Prim.Native.Nat.{ℕ, suc, ◌+◌, ◌≤◌, ◌<◌}
+use Prim.Native.Nat.{ℕ, suc, ◌+◌, ◌/◌, ◌%◌, ◌≤◌, ◌<◌}
 use mathlib.Core.Path.{◌≡◌, refl, sym, ap, ap₂, ◌∙◌}
 use mathlib.Core.List.{List, [], ◌∷◌, ◌++◌, append_assoc, append-nil}
 use native.Mathlib.Numerals.{add-one}
 use native.Mathlib.Nat.{add-zero}
 use native.Mathlib.Omega.{arith}
 use lib.ListN.{length, take, drop, get_or, set, length-append, take-append-drop, drop_of_length-le}
-use lib.Seq.{sets, sets-eq, length-take-le, take_at, drop_at, drop-drop, drop-cons, set_split, take-set-le, append_snoc}
+use lib.Seq.{length-take-le, take_at, drop_at, drop-drop, drop-cons, set_split, take-set-le, append_snoc}
 use Rattle.words.specs.Words.{bytes_of, bytes_of_words, placed_at}
 use Rattle.words.proofs.Words.{length_bytes_of}
 
@@ -73,11 +73,6 @@ three_placed at xs ys zs b x y z k m n room kept e p f q g r =
     let later = then_place k ys zs x y z m n (omega arith) f q g r in
     then_place at xs (ys ++ zs) b x z k n (omega arith) e p later.0 later.1
 
--- the bytes of a number stored one after the other are placed
-pub stored : (n at w : ℕ) (b : List ℕ) → at + n ≤ length b → sets b at (bytes_of n w) ≡ placed_at at (bytes_of n w) b
-unfolding placed_at
-stored n at w b h = sets-eq (bytes_of n w) b at (omega (arith, length_bytes_of n w))
-
 -- where nothing is left to place, all is placed
 pub place_end : (at : ℕ) (rest b goal : List ℕ) → rest ≡ [] → placed_at at rest b ≡ goal → b ≡ goal
 place_end at rest b goal none left = sym (place_none at b) ∙ ap (λ l. placed_at at l b) (sym none) ∙ left
@@ -104,6 +99,19 @@ copy_turn at i s b goal left more room =
 -- where all of it is copied, nothing is left
 pub copy_all : (at i : ℕ) (s b goal : List ℕ) → placed_at (at + i) (drop i s) b ≡ goal → length s ≤ i → b ≡ goal
 copy_all at i s b goal left h = place_end (at + i) (drop i s) b goal (drop_of_length-le s h) left
+
+-- one turn of writing the bytes of a number: those above the lowest are left
+pub bytes_turn : (at next left n v : ℕ) (b goal : List ℕ) → placed_at at (bytes_of left v) b ≡ goal → left ≡ suc n
+    → next ≡ at + 1 → at < length b → placed_at next (bytes_of n (v / 256)) (set b at (v % 256)) ≡ goal
+unfolding bytes_of
+bytes_turn at next left n v b goal all more behind room =
+    place_rest at (v % 256 ∷ []) (bytes_of n (v / 256)) b (set b at (v % 256)) goal next (omega arith)
+    (place_byte at (v % 256) b room) behind (ap (λ k. placed_at at (bytes_of k v) b) (sym more) ∙ all)
+
+-- where all bytes are written, nothing is left
+pub bytes_all : (at left v : ℕ) (b goal : List ℕ) → placed_at at (bytes_of left v) b ≡ goal → left ≡ 0 → b ≡ goal
+unfolding bytes_of
+bytes_all at left v b goal all none = place_end at (bytes_of left v) b goal (ap (λ k. bytes_of k v) none) all
 
 -- one turn of writing words of n bytes
 pub words_turn : (n at i next : ℕ) (ws b x goal : List ℕ) → placed_at at (bytes_of_words n (drop i ws)) b ≡ goal

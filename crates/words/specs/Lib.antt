@@ -2,3 +2,4 @@ pub mod Lists
 pub mod Words
 pub mod Grounds
 pub mod Figures
+pub mod Refusals

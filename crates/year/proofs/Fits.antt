@@ -15,6 +15,7 @@ use Rattle.reading.specs.Interval.{most_kilowatts, Row, header_of, rows_of}
 use Rattle.reading.proofs.Bounds.{terms_in_lem}
 use Rattle.assessment.specs.Assessment.{
   most_cents,
+  most_actual,
   ratio_of,
   printed_ratio,
   Account,
@@ -29,7 +30,6 @@ use Rattle.assessment.specs.Assessment.{
   credits,
   carried_on,
 }
-use Rattle.assessment.specs.Values.{most_actual}
 use Rattle.assessment.proofs.Promises.{FiguresIn, figures_in_lem, printed_le, numerator_le, denominator_le}
 use Rattle.assessment.proofs.Limits.{limit_le}
 use Rattle.assessment.proofs.Shares.{credits_le}

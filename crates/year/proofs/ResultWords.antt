@@ -5,8 +5,7 @@ use mathlib.Core.List.{List, [], ◌∷◌, Memᴰ}
 use native.Mathlib.Omega.{arith}
 use lib.ListN.{length}
 use Rattle.words.proofs.Lists.{member_le, EachBelow, below_nil, below_cons}
-use Rattle.assessment.specs.Assessment.{ChargedRow, Assessed, charges, pool, credit, credits}
-use Rattle.assessment.specs.Values.{most_actual}
+use Rattle.assessment.specs.Assessment.{most_actual, ChargedRow, Assessed, charges, pool, credit, credits}
 use Rattle.assessment.proofs.Promises.{FiguresIn}
 use Rattle.assessment.proofs.Shares.{credits_le}
 use Rattle.settling.specs.Settling.{rows_words}

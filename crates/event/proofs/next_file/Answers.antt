@@ -18,8 +18,8 @@ returns-then-left-lt-LENGTH_BYTES c = record {
 pub returns-then-left-bytes : goal.returns-then-left-bytes
 returns-then-left-bytes c =
     record {
-      next = cut_file _ _ c.requires c.number32-bytes.result (omega arith) c.number32-bytes.ensures.value
-          c.number32-bytes.ensures.upper_bound (omega arith);
+      next = cut_file _ _ c.requires c.number-bytes.result (omega arith) c.number-bytes.ensures.value
+          c.number-bytes.ensures.upper_bound (omega arith);
       after_length = λ z. never z;
       ends_later = omega arith;
       within = omega arith;
@@ -29,8 +29,8 @@ pub returns : goal.returns
 unfolding file_at
 returns c =
     record {
-      next = whole_file _ _ c.requires c.number32-bytes.result (omega arith) c.number32-bytes.ensures.value
-          c.number32-bytes.ensures.upper_bound _ _ refl refl (omega arith);
+      next = whole_file _ _ c.requires c.number-bytes.result (omega arith) c.number-bytes.ensures.value
+          c.number-bytes.ensures.upper_bound _ _ refl refl (omega arith);
       after_length = λ z. omega arith;
       ends_later = omega arith;
       within = omega arith;

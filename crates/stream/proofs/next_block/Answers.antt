@@ -21,17 +21,17 @@ returns-then-got-lt-LENGTH_BYTES c =
 
 pub returns-then-most-bytes : goal.returns-then-most-bytes
 unfolding found_as
-returns-then-most-bytes c = next_over _ _ _ (omega arith) _ c.number32-bytes.ensures.value (omega arith)
+returns-then-most-bytes c = next_over _ _ _ (omega arith) _ c.number-bytes.ensures.value (omega arith)
 
 pub returns-then-block-bytes : goal.returns-then-block-bytes
 unfolding found_as
 returns-then-block-bytes c =
-    next_short _ _ _ (omega arith) _ c.number32-bytes.ensures.value (omega arith) (omega arith)
+    next_short _ _ _ (omega arith) _ c.number-bytes.ensures.value (omega arith) (omega arith)
 
 pub returns : goal.returns
 unfolding found_as
 returns c =
-    let n = c.number32-bytes in
+    let n = c.number-bytes in
     let s = c.args in
     let due = due_within s.most s.head.now (omega arith) n.result n.ensures.value (omega arith) in
     next_whole _ _ _ (omega arith) _ n.ensures.value (omega arith) (omega arith)

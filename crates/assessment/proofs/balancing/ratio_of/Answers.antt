@@ -1,6 +1,6 @@
 -- `assessment::balancing::ratio_of` meets its contract. What is left to add is the shares of the rows from i on.
 use Rattle.reading.specs.Interval.{row_with, row_of}
-use Rattle.reading.specs.Values.{row_in, Sound}
+use Rattle.reading.specs.Values.{row_in}
 use Rattle.reading.proofs.SoundRows.{sound_row}
 use Rattle.assessment.specs.Values.{ratio_in}
 use Rattle.assessment.proofs.SumLaws.{summed_start, summed_turn, summed_end}
@@ -10,17 +10,13 @@ pub loop-i-init : goal.loop-i-init
 loop-i-init c =
     summed_start c.import_share-numerator.ensures.result_value c.import_share-numerator.ensures.result_le_most_imports
 
-pub numerator_share-requires : goal.numerator_share-requires
-numerator_share-requires c =
-    let row_sound : Sound c.args.file.now (row_in c.row_at-row.result)
-    = sound_row c.requires.scanned c.requires.tabled.read c.loop-i.i c.loop-i-test.true c.row_at-row.ensures in
-    record { tabled = c.requires.tabled; sound = row_sound }
+pub numerator_share-requires-clause-sound : goal.numerator_share-requires-clause-sound
+numerator_share-requires-clause-sound c =
+    sound_row c.requires.scanned c.requires.tabled.read c.loop-i.i c.loop-i-test.true c.row_at-row.ensures
 
 pub denominator_share-requires : goal.denominator_share-requires
 denominator_share-requires c =
-    let row_sound : Sound c.args.file.now (row_in c.row_at-row.result)
-    = sound_row c.requires.scanned c.requires.tabled.read c.loop-i.i c.loop-i-test.true c.row_at-row.ensures in
-    row_sound.in_range
+    (sound_row c.requires.scanned c.requires.tabled.read c.loop-i.i c.loop-i-test.true c.row_at-row.ensures).in_range
 
 pub loop-i-preserved : goal.loop-i-preserved
 unfolding row_of row_with
@@ -35,6 +31,4 @@ loop-i-preserved c =
 
 pub returns : goal.returns
 unfolding ratio_in
-returns c =
-    let both = summed_end c.requires.tabled c.loop-i.invariant c.loop-i-test.false in
-    record { result_value = both.0; numerator_le_most_numerator = both.1 }
+returns c = summed_end c.requires.tabled c.loop-i.invariant c.loop-i-test.false

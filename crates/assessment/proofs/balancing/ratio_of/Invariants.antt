@@ -1,10 +1,6 @@
 -- `assessment::balancing::ratio_of` meets its contract. What is left to add is the shares of the rows from i on.
-use Prim.Native.Nat.{◌-◌}
 use Rattle.assessment.proofs.SumLaws.{Summed}
 use Rattle.assessment.proofs.balancing.ratio_of.Given as goal
 
 abbrev pub invariant-loop-i : goal.invariant-loop-i
 invariant-loop-i l = Summed l.file l.h l.i l.numerator.0 l.denominator.0
-
-abbrev pub decreases-loop-i : goal.decreases-loop-i
-decreases-loop-i l = l.h.rows - l.i

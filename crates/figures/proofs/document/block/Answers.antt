@@ -6,4 +6,4 @@ use Rattle.figures.proofs.document.block.Goals as goal
 
 pub returns : goal.returns
 unfolding placed_at listing_block block_with computing
-returns c = c.store32.ensures
+returns c = c.store.ensures

@@ -6,4 +6,4 @@ use Rattle.figures.proofs.document.file.Goals as goal
 
 pub returns : goal.returns
 unfolding placed_at listing_file file_with row11 row12 row13 row14 listing_points computing
-returns c = c.store32.ensures
+returns c = c.store.ensures

@@ -1,11 +1,7 @@
 -- `ledger::ground_six::accounts_refused` meets its contract. The invariant:
 -- all accounts are refused just where those left are, after the last id and with the sums so far.
-use Prim.Native.Nat.{◌-◌}
 use Rattle.ledger.proofs.GroundSixLaws.{Passing}
 use Rattle.ledger.proofs.ground_six.accounts_refused.Given as goal
 
 abbrev pub invariant-loop-j : goal.invariant-loop-j
-invariant-loop-j l = Passing l.ledger l.s l.last l.charged.0 l.credited.0 l.j
-
-abbrev pub decreases-loop-j : goal.decreases-loop-j
-decreases-loop-j l = l.s.accounts - l.j
+invariant-loop-j l = Passing l.accounts.bytes.now l.fn.s l.last l.charged.0 l.credited.0 l.j

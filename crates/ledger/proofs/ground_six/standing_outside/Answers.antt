@@ -1,9 +1,12 @@
 -- `ledger::ground_six::standing_outside` meets its contract. Each test that holds refuses, and the last decides.
-use mathlib.Core.Path.{sym, ◌∙◌}
+use mathlib.Core.Path.{◌≡◌, sym, ◌∙◌}
 use native.Mathlib.Omega.{arith}
+use borrow.Author.Rules.{rules}
+use lib.Dec.{ltb}
 use lib.ListN.{length}
 use Rattle.reading.specs.Values.{terms_in}
 use Rattle.reading.proofs.Bounds.{terms_in_lem}
+use Rattle.assessment.specs.Assessment.{most_cents}
 use Rattle.ledger.proofs.GroundSixLaws.{holds, carried_decides}
 use Rattle.ledger.proofs.Sound.{terms_of_ledger}
 use Rattle.ledger.proofs.ground_six.standing_outside.Goals as goal
@@ -47,7 +50,8 @@ unfolding terms_in
 returns c =
     let s = c.args.s in
     let b = c.args.ledger.now in
-    c.below.ensures
+    let above : c.lt.result ≡ ltb most_cents s.carried.0 = search rules in
+    above
     ∙ sym (carried_decides (terms_in s.terms) s.accounts (length b) s.earliest s.carried.0
     (sym c.terms_refused.ensures ∙ c.if-terms_refused.false) (omega arith) (omega arith) (omega arith)
     (omega arith))

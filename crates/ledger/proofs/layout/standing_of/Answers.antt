@@ -10,11 +10,11 @@ unfolding standing_in terms_in standing_of word64
 returns c =
     λ x. record {
       terms = record {
-        net_cone = c.number64.ensures x;
-        days = c.number64-2.ensures x;
-        year = c.number64-3.ensures x;
+        net_cone = c.number.ensures.value x;
+        days = c.number-2.ensures.value x;
+        year = c.number-3.ensures.value x;
       };
-      earliest = c.number64-4.ensures x;
-      carried = c.number64-5.ensures x;
-      account_count = c.number64-6.ensures x;
+      earliest = c.number-4.ensures.value x;
+      carried = c.number-5.ensures.value x;
+      account_count = c.number-6.ensures.value x;
     }

@@ -4,5 +4,5 @@ use Rattle.page.proofs.account.has_account.Goals as goal
 
 pub returns : goal.returns
 returns c =
-    has_is _ c.requires _ _ _ c.walk_to.ensures.account_value c.walk_to.ensures.accounts_value _
-    c.ended.ensures
+    rw (← c.accounts-accounts.ensures.bytes_value)
+    (has_is _ c.accounts-accounts.result.counted _ c.walk_to.ensures c.ended.ensures)

@@ -1,30 +1,22 @@
 -- `page::account::walk_to` meets its contract. The budget of one row and the accounts suffices.
-use Rattle.page.proofs.AccountLaws.{has_standing, may_start, may_walk, walked}
+use mathlib.Core.Path.{ap, ◌∙◌}
+use Prim.Native.Nat.{◌+◌}
+use native.Mathlib.Omega.{arith}
+use lib.ListN.{drop}
+use Rattle.ledger.specs.Ledger.{ledger_of, ids_in}
+use Rattle.ledger.specs.Values.{before}
+use Rattle.page.proofs.AccountLaws.{one_row_enough}
 use Rattle.page.proofs.account.walk_to.Goals as goal
-
-pub standing_of-s-requires : goal.standing_of-s-requires
-standing_of-s-requires c = has_standing _ c.requires
-
-pub start-requires : goal.start-requires
-start-requires c =
-    let both = may_start _ c.requires _ c.standing_of-s.ensures in
-    record { rows_le_most_rows = both.0; accounts_le_most_ids = both.1 }
 
 pub to-requires : goal.to-requires
 to-requires c =
-    let both = may_walk _ c.requires _ c.standing_of-s.ensures _ _ c.start.ensures.account_value c.start.ensures.accounts_value
-    c.start.ensures.budget_value in
+    let start = c.start.ensures in
     record {
-      accounts_value = both.0;
-      accounts_in_bounds = both.1.0;
-      accounts_le_most_ids = both.1.1.0;
-      account_le_accounts = both.1.1.1.0;
-      ledger_bound = both.1.1.1.1;
+      account_within = omega arith;
+      budget_suffices = one_row_enough _ c.args.accounts.counted c.args.id start.account_value start.budget_value;
     }
 
 pub returns : goal.returns
 returns c =
-    let both = walked _ c.requires _ c.standing_of-s.ensures _ _ _ c.start.result c.start.ensures.account_value
-    c.start.ensures.accounts_value
-    c.to.ensures.account_value c.to.ensures.accounts_value_2 in
-    record { account_value = both.0; accounts_value = both.1 }
+    let ids = ids_in (ledger_of c.args.accounts.bytes.now) in
+    c.to.ensures.account_value ∙ ap (λ k. k + before c.args.id (drop k ids)) c.start.ensures.account_value ∙ omega arith

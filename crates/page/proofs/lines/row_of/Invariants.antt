@@ -1,5 +1,4 @@
 -- `page::lines::row_of` meets its contract. What is left is the place of the id among the rows from i on.
-use Prim.Native.Nat.{◌-◌, ◌≤◌}
 use mathlib.Core.Path.{◌≡◌}
 use Rattle.reading.specs.Interval.{rows_of}
 use Rattle.ledger.specs.Values.{before}
@@ -7,7 +6,4 @@ use Rattle.page.proofs.RowLaws.{row_ids, place_from}
 use Rattle.page.proofs.lines.row_of.Given as goal
 
 abbrev pub invariant-loop-i : goal.invariant-loop-i
-invariant-loop-i l = (l.i ≤ l.h.rows) × (before l.id (row_ids (rows_of l.file)) ≡ place_from l.file l.id l.i)
-
-abbrev pub decreases-loop-i : goal.decreases-loop-i
-decreases-loop-i l = l.h.rows - l.i
+invariant-loop-i l = before l.id (row_ids (rows_of l.file)) ≡ place_from l.file l.id l.i

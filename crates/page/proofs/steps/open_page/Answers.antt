@@ -1,41 +1,41 @@
 -- `page::steps::open_page` meets its contract. The id is looked for in the ledger that an accepted opening leaves.
+use mathlib.Core.Path.{ap}
 use native.Mathlib.Omega.{arith}
-use borrow.Author.Tests.{not-true, not-false}
-use mathlib.Core.Path.{sym, ◌∙◌}
-use Rattle.words.proofs.Ints.{never}
+use borrow.Author.Rules.{rules}
+use lib.ListN.{length}
 use Rattle.page.proofs.YearLaws.{year_opened}
-use Rattle.page.proofs.StepLaws.{stopped_paged, accepted_holds, known_paged, foreign_paged}
+use Rattle.page.proofs.StepLaws.{stopped_paged, accepted_holds, accepted_same, known_paged, foreign_paged}
 use Rattle.page.proofs.steps.open_page.Goals as goal
 
-pub returns-then-not-taken : goal.returns-then-not-taken
-returns-then-not-taken c =
-    let off = not-true _ c.if-not-taken.true in
-    record {
-      step_taken = stopped_paged _ _ _ _ _ _ c.list_opening-taken.ensures _ off;
-      year_ledger = λ on. never (sym off ∙ on);
-    }
+pub returns-then-not-opened-clause-step_taken : goal.returns-then-not-opened-clause-step_taken
+returns-then-not-opened-clause-step_taken g c =
+    let taken = stopped_paged _ _ _ _ _ _ c.list_opening-opened.ensures c.args.id c.if-not-opened.true in
+    rw c.if-not-opened.true at taken
 
-pub has_account-requires : goal.has_account-requires
-has_account-requires c =
-    accepted_holds _ _ _ _ _ _ c.list_opening-taken.ensures (not-false _ c.if-not-taken.false)
-    (λ i. omega (arith, c.shared_slice_known-1.given i))
+pub held-requires : goal.held-requires
+held-requires g c =
+    accepted_holds _ _ _ _ _ _ c.list_opening-opened.ensures c.if-not-opened.false
+    (λ i. omega (arith, c.type_inv.block i))
 
-pub returns-then-has_account : goal.returns-then-has_account
-returns-then-has_account c =
-    record {
-      step_taken = known_paged _ _ _ _ _ _ c.list_opening-taken.ensures (not-false _ c.if-not-taken.false)
-          (λ i. omega (arith, c.shared_slice_known-1.given i))
-          _ _ c.has_account.ensures c.if-has_account.true;
-      year_ledger = λ on. year_opened _ _ _ _ _ _ c.list_opening-taken.ensures on
-          (λ i. omega (arith, c.shared_slice_known-1.given i));
-    }
+pub returns-then-has_account-clause-step_taken : goal.returns-then-has_account-clause-step_taken
+returns-then-has_account-clause-step_taken g c =
+    let taken = known_paged _ _ _ _ _ _ c.list_opening-opened.ensures c.if-not-opened.false
+    (λ i. omega (arith, c.type_inv.block i)) c.args.id _ (rw c.held.ensures at c.has_account.ensures) c.if-has_account.true in
+    rw c.if-not-opened.false at taken
 
-pub returns : goal.returns
-returns c =
-    record {
-      step_taken = foreign_paged _ _ _ _ _ _ c.list_opening-taken.ensures (not-false _ c.if-not-taken.false)
-          (λ i. omega (arith, c.shared_slice_known-1.given i))
-          _ _ c.has_account.ensures c.if-has_account.false _ _ c.put_refused-end.ensures.out_after
-          c.put_refused-end.ensures.value (omega arith);
-      year_ledger = λ on. never on;
-    }
+pub returns-then-has_account-clause-year_ledger : goal.returns-then-has_account-clause-year_ledger
+returns-then-has_account-clause-year_ledger g c =
+    λ on. year_opened _ _ _ _ _ _ c.list_opening-opened.ensures c.if-not-opened.false
+    (λ i. omega (arith, c.type_inv.block i))
+
+pub put_refused-requires : goal.put_refused-requires
+put_refused-requires g c =
+    let same = ap length (accepted_same _ _ _ _ _ _ c.list_opening-opened.ensures c.if-not-opened.false
+    (λ i. omega (arith, c.type_inv.block i))) in
+    (search rules, omega (arith, same, c.requires))
+
+pub returns-clause-step_taken : goal.returns-clause-step_taken
+returns-clause-step_taken g c =
+    foreign_paged _ _ _ _ _ _ c.list_opening-opened.ensures c.if-not-opened.false
+    (λ i. omega (arith, c.type_inv.block i))
+    _ _ (rw c.held.ensures at c.has_account.ensures) c.if-has_account.false _ c.put_refused.ensures.puts

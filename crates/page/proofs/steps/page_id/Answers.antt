@@ -4,8 +4,7 @@ use Rattle.page.proofs.StepLaws.{id_cut, id_whole}
 use Rattle.page.proofs.steps.page_id.Goals as goal
 
 pub returns-then-word-lt-ID_WORD_BYTES : goal.returns-then-word-lt-ID_WORD_BYTES
-returns-then-word-lt-ID_WORD_BYTES c =
-    id_cut _ _ _ _ (omega arith) c.put_cut-end.ensures.out_after c.put_cut-end.ensures.value (omega arith)
+returns-then-word-lt-ID_WORD_BYTES g c = id_cut _ _ _ (omega arith) c.put_cut.ensures.puts
 
 pub returns : goal.returns
-returns c = id_whole _ _ _ (omega arith) c.number32.ensures.value
+returns g c = id_whole _ _ _ (omega arith) c.number.ensures.value

@@ -16,11 +16,11 @@ returns c =
     let at = 8 * c.args.j in
     let p = c.signed in
     let here : at ≡ at + 4 * 0 = omega arith in
-    let first = c.number32.ensures.value ∙ ap (number_at 4 b) here ∙ sym (word_part at b 0) in
+    let first = c.number.ensures.value ∙ ap (number_at 4 b) here ∙ sym (word_part at b 0) in
     let price = signed_field p.result p.ensures.value p.ensures.result_bound first in
-    let kw = c.number32-2.ensures.value ∙ sym (word_part at b 1) in
+    let kw = c.number-2.ensures.value ∙ sym (word_part at b 1) in
     record {
       result_value = λ x. record { price = price x; kw = kw x };
       price_bound = rw (plain p.result (omega (arith, p.ensures.result_bound))) p.ensures.result_bound;
-      kw_bound = c.number32-2.ensures.upper_bound;
+      kw_bound = c.number-2.ensures.upper_bound;
     }

@@ -1,24 +1,16 @@
--- `reading::rows::schedules` meets its contract. By the format: none or one, or as many as the row says.
-use mathlib.Core.Path.{sym, ap, ◌∙◌}
-use native.Mathlib.Omega.{arith}
-use lib.ListN.{length}
+-- `reading::rows::schedules` meets its contract. By the format.
+use mathlib.Core.Path.{sym, ◌∙◌}
 use Rattle.reading.specs.Values.{row_in}
-use Rattle.reading.proofs.Schedules.{named_none, named_one, length_table}
+use Rattle.reading.proofs.Layouts.{curves_said, schedules_said}
+use Rattle.reading.proofs.Schedules.{length_own, length_table}
 use Rattle.reading.proofs.rows.schedules.Goals as goal
 
-pub returns-then-row-eq0 : goal.returns-then-row-eq0
+pub returns-in-Curves : goal.returns-in-Curves
 unfolding row_in
-returns-then-row-eq0 c f said =
-    let none = named_none f (row_in c.args.row) (said ∙ c.in-1.is) (omega arith) in
-    sym (ap length none)
+returns-in-Curves c f said =
+    c.min.ensures ∙ sym (length_own f (row_in c.args.row) (said ∙ curves_said c.in-Curves.ensures))
 
-pub returns-else-row-eq0 : goal.returns-else-row-eq0
+pub returns-in-Schedules : goal.returns-in-Schedules
 unfolding row_in
-returns-else-row-eq0 c f said =
-    let one = named_one f (row_in c.args.row) (said ∙ c.in-1.is) (omega arith) in
-    sym (ap length one)
-
-pub returns-in_default : goal.returns-in_default
-unfolding row_in
-returns-in_default c f said =
-    sym (length_table f (row_in c.args.row) (λ e. c.in_default.in_default-own.rest.1 (sym said ∙ e)))
+returns-in-Schedules c f said =
+    sym (length_table f (row_in c.args.row) (λ same. schedules_said c.in-Schedules.ensures (sym said ∙ same)))

@@ -1,12 +1,7 @@
 -- `settling::result::write_credit` meets its contract. One word, the last of the row.
-use Rattle.settling.specs.Settling.{result_bytes}
-use borrow.Author.Rules.{rules}
+use mathlib.Core.Path.{sym, ◌∙◌}
+use Rattle.words.proofs.Access.{word_placed}
 use Rattle.settling.proofs.result.write_credit.Goals as goal
 
-pub put64-requires : goal.put64-requires
-unfolding result_bytes
-put64-requires c = search rules
-
 pub returns : goal.returns
-unfolding result_bytes
-returns c = search rules
+returns c = rw (← c.result_bytes.ensures) (c.put.ensures ∙ sym (word_placed _ _ _))
