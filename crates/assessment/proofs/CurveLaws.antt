@@ -9,9 +9,10 @@ use lib.Seq.{drop-drop}
 use lib.IntN.{ℤ}
 use lib.Signed.{le_z, lt_z}
 use Rattle.words.specs.Words.{entries}
-use Rattle.reading.specs.Interval.{point_bytes, Point, Row, point_of, point_at, points_in}
-use Rattle.reading.specs.Values.{point_in}
+use Rattle.reading.specs.Interval.{point_bytes, Point, Schedule, Row, point_of, point_at, points_in, row_with}
+use Rattle.reading.specs.Values.{row_in, point_in}
 use Rattle.reading.specs.declared.rows.Point.{Point as PointValue}
+use Rattle.reading.specs.declared.rows.Row.{Row as RowValue}
 use Rattle.reading.proofs.Tables.{table_cons}
 use Rattle.reading.proofs.RowsLeft.{points_left, points_start, points_turn, points_end}
 use Rattle.assessment.specs.Assessment.{
@@ -89,6 +90,9 @@ module _ (lmp : ℤ) (n : ℕ) (b : List ℕ) where
   pub reached_none : (i : ℕ) → i ≡ 0 → NoneFrom i → from_last_reached lmp (points_in n b) ≡ []
   reached_none i z none = ap (from_last_reached lmp) (points_start n b ∙ ap (points_left n b) (sym z)) ∙ none
 
+-- what is known as long as none is reached
+pub ruleset unreached = (none_behind, none_from, reached_none)
+
 -- the points from k on
 points_cons : (m k : ℕ) (b : List ℕ)
     → points_in (suc m) (drop (point_bytes * k) b) ≡ point_at b k ∷ points_in m (drop (point_bytes * (k + 1)) b)
@@ -146,14 +150,20 @@ unfolding scheduled_by points_in entries point_at
 scheduled_some zero b r h = absurd (omega arith)
 scheduled_some (suc m) b r h = let before : suc m - 1 ≡ m = omega arith in rw (before, ← last_price_lem m b)
 
--- the LMP is below the first price, above the last, or neither
-module _ (n : ℕ) (b : List ℕ) (r : Row) (some : 0 < n) (first : PointValue) (is_first : point_in first ≡ point_at b 0) where
+-- of a row, whatever its schedules, the LMP is below the first price, above the last, or neither
+module _ (n : ℕ) (b : List ℕ) (row : RowValue) (schedules : List Schedule) (some : 0 < n)
+    (first : PointValue) (is_first : point_in first ≡ point_at b 0) where
+  -- the row
+  abbrev r : Row
+  r = row_with (row_in row) schedules
+
   -- with an LMP below the first price, scheduled is the minimum if online, else 0
   pub scheduled_below : lt_z r.lmp first.price ≡ true → minimum_online r ≡ scheduled_by (points_in n b) r
   unfolding point_in
   scheduled_below e = rw (scheduled_some n b r some, ← is_first, e)
 
-  module _ (last : PointValue) (is_last : point_in last ≡ point_at b (n - 1)) (reached : lt_z r.lmp first.price ≡ false) where
+  module _ (last : PointValue) (is_last : point_in last ≡ point_at b (n - 1))
+      (reached : lt_z r.lmp first.price ≡ false) where
     -- with an LMP not below the first price and above the last, scheduled is the emergency maximum
     pub scheduled_above : lt_z last.price r.lmp ≡ true → r.maximum ≡ scheduled_by (points_in n b) r
     unfolding point_in

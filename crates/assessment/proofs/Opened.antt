@@ -1,9 +1,10 @@
 -- Definitions that a function's proofs open together: an attribute `unfolding` names one of these sets.
 use Prim.Native.Nat.{ℕ}
-use Rattle.reading.specs.Interval.{kind_of, row_with, row_of}
-use Rattle.reading.specs.Values.{terms_in, header_in, row_in}
+use Rattle.reading.specs.Interval.{kind_of, schedule_of, row_with, row_of}
+use Rattle.reading.specs.Values.{terms_in, header_in, row_in, schedule_in, point_in}
 use Rattle.assessment.specs.Assessment.{
   actual,
+  along_curve,
   available,
   import_share,
   considered_as,
@@ -35,6 +36,16 @@ use Rattle.assessment.specs.Values.{figures_in}
 unfoldable pub row_words : ℕ
 unfolding row_of row_with row_in
 row_words = 0
+
+-- and by the words of its schedules
+unfoldable pub schedules : ℕ
+unfolding row_words schedule_of schedule_in
+schedules = 0
+
+-- the points along a curve
+unfoldable pub points_along : ℕ
+unfolding point_in along_curve
+points_along = 0
 
 -- actual, and what is available
 unfoldable pub actual_rule : ℕ

@@ -1,22 +1,32 @@
 -- A row's schedules: the one that it was dispatched on, and the highest kW of those that the economic rule looks at.
 use Prim.Native.Nat.{ℕ, zero, suc, ◌+◌, ◌≤◌, ◌<◌, max}
-use mathlib.Core.Path.{◌≡◌, refl, sym, ap, ap₂, subst, ◌∙◌}
+use mathlib.Core.Path.{◌≡◌, refl, sym, ap, ap₂, ◌∙◌}
 use mathlib.Core.List.{List, [], ◌∷◌, map}
 use mathlib.Core.Bool.{true, false}
 use native.Mathlib.Omega.{arith}
 use lib.ListN.{length, take, drop}
 use lib.Seq.{drop-nil}
-use Rattle.reading.specs.Interval.{Point, RowWords, ScheduleWords, Schedule, Row, schedules_named, schedule_at, curve_part, points_in, curve_of, schedule_of, row_with, row_of}
-use Rattle.reading.specs.Values.{row_in, schedule_in, Sound, SoundCurve}
-use Rattle.reading.specs.declared.rows.Row.{Row as RowValue}
+use Rattle.reading.specs.Interval.{
+  Point,
+  RowWords,
+  Schedule,
+  Row,
+  schedules_named,
+  schedule_at,
+  curve_part,
+  points_in,
+  curve_of,
+  schedule_of,
+  row_with,
+  row_of,
+}
+use Rattle.reading.specs.Values.{schedule_in, Dispatched, SoundCurve}
 use Rattle.reading.specs.declared.rows.Schedule.{Schedule as ScheduleValue}
 use Rattle.reading.proofs.SoundRows.{
-  schedule_sound,
   schedules_of,
   next_schedule,
   no_schedule_lem,
-  dispatched_some,
-  dispatched_none,
+  length_schedules,
   curve_is,
   length_curve,
   count_some,
@@ -45,12 +55,12 @@ counted_le on r s = grind arith
 -- the rules, by the schedule that a row was dispatched on
 module _ (r : Row) where
   -- without one there is no curve
-  pub none_curve : dispatched_on r ≡ [] → dispatched_curve r ≡ []
+  none_curve : dispatched_on r ≡ [] → dispatched_curve r ≡ []
   unfolding dispatched_curve first_curve
   none_curve none = ap first_curve none
 
   -- bonus is cut to what is available
-  pub cut_none : dispatched_on r ≡ [] → available r ≡ bonus_cut r
+  cut_none : dispatched_on r ≡ [] → available r ≡ bonus_cut r
   unfolding bonus_cut bonus_cut_by
   cut_none none = ap (λ ps. bonus_cut_by ps r) (sym (none_curve none))
 
@@ -60,12 +70,12 @@ module _ (r : Row) where
   scheduled_none none = ap (λ ps. scheduled_by ps r) (none_curve none)
 
   -- and the economic rule takes them
-  pub economic_none : dispatched_on r ≡ [] → r.committed ≡ economic_scheduled r
+  economic_none : dispatched_on r ≡ [] → r.committed ≡ economic_scheduled r
   unfolding economic_scheduled economic_by
   economic_none none = ap (λ on. economic_by on r) (sym none)
 
   -- with a curve bonus is cut to the scheduled kW
-  pub cut_some : 0 < length (dispatched_curve r) → scheduled r ≡ bonus_cut r
+  cut_some : 0 < length (dispatched_curve r) → scheduled r ≡ bonus_cut r
   unfolding scheduled bonus_cut bonus_cut_by
   cut_some = by (dispatched_curve r)
     where
@@ -120,32 +130,27 @@ module _ (on : ℕ) (r : Row) (s : Schedule) where
   unfolding counted_for
   counted_no e = rw e
 
--- a sound row of a file
-module _ {f : List ℕ} {w : RowWords} (s : Sound f w) where
-  -- each schedule that is read of it has its points in order
-  pub read_sound : {k : ℕ} → k < length (schedules_named f w) → {v : ScheduleWords} → v ≡ schedule_at f w k
-      → SoundCurve f v
-  read_sound {k} below e = subst (SoundCurve f) (sym e) (schedule_sound s k below)
-
-  -- where the one dispatched on has no points, there is none
-  pub on_nothing : {v : ScheduleWords} → v ≡ schedule_at f w w.dispatched → v.count ≡ 0
-      → dispatched_on (row_of f w) ≡ []
+-- a row of a file that names no schedules
+module _ (f : List ℕ) (w : RowWords) (none : schedules_named f w ≡ []) where
+  -- was dispatched on none
+  on_nothing : dispatched_on (row_of f w) ≡ []
   unfolding dispatched_on
-  on_nothing e none =
+  on_nothing =
       let d = (row_of f w).dispatched in
-      let empty = schedules_of f w ∙ ap (map (schedule_of f)) (dispatched_none s (ap (λ v. v.count) (sym e) ∙ none)) in
+      let empty = schedules_of f w ∙ ap (map (schedule_of f)) none in
       ap (λ ss. take 1 (drop d ss)) empty ∙ ap (take 1) (drop-nil d)
 
-  -- where it has points, it is among the row's schedules
-  pub on_something : {v : ScheduleWords} → v ≡ schedule_at f w w.dispatched → (v.count ≡ 0 → ⊥)
-      → w.dispatched < length (schedules_named f w)
-  on_something {v} e some =
-      let same = ap (λ v. v.count) e in
-      dispatched_some s (subst (λ n. 0 < n) same (above v.count some))
-    where
-      above : (n : ℕ) → (n ≡ 0 → ⊥) → 0 < n
-      above zero some = absurd (some refl)
-      above (suc n) some = omega arith
+  -- so there is no curve
+  pub no_curve : dispatched_curve (row_of f w) ≡ []
+  no_curve = none_curve (row_of f w) on_nothing
+
+  -- bonus is cut to what is available
+  pub cut_unnamed : available (row_of f w) ≡ bonus_cut (row_of f w)
+  cut_unnamed = cut_none (row_of f w) on_nothing
+
+  -- and the economic rule takes the committed kW
+  pub economic_unnamed : (row_of f w).committed ≡ economic_scheduled (row_of f w)
+  economic_unnamed = economic_none (row_of f w) on_nothing
 
 -- before schedule k of a row dispatched on one of a kind: the highest so far, with what those left count,
 -- is what the economic rule takes, and it is no less than the row's own
@@ -183,17 +188,6 @@ module _ (f : List ℕ) (w : RowWords) (among : w.dispatched < length (schedules
   unfolding dispatched_curve first_curve schedule_of
   curve_read = ap first_curve on_read
 
-  -- the points that are read of it are that curve
-  pub read_curve : {v : ScheduleWords} → v ≡ schedule_at f w w.dispatched → {c : List ℕ} → c ≡ curve_part f v
-      → points_in v.count c ≡ dispatched_curve (row_of f w)
-  read_curve {v} e part = curve_is f v part ∙ ap (curve_of f) e ∙ sym curve_read
-
-  -- a sound row has some
-  pub curve_some : Sound f w → 0 < length (dispatched_curve (row_of f w))
-  curve_some s =
-      let v = schedule_at f w w.dispatched in
-      omega (arith, ap length curve_read, length_curve f v, count_some (schedule_sound s w.dispatched among))
-
   -- before the first schedule, the row's own is the highest
   pub highest_start : {on own : ℕ} → on ≡ (schedule_at f w w.dispatched).kind → own ≡ scheduled (row_of f w)
       → Highest (row_of f w) on 0 own
@@ -214,35 +208,39 @@ module _ (f : List ℕ) (w : RowWords) (among : w.dispatched < length (schedules
       let own = scheduled_on (row_of f w) s (on_read ∙ sym same) in
       record { rest = omega (arith, h.rest, h.own, next, own, counted_le on (row_of f w) s); own = h.own }
 
--- of a sound row the schedule that it was dispatched on, as the code holds both; it has points
-module _ {f : List ℕ} (row : RowValue) (on : ScheduleValue) (s : Sound f (row_in row))
-    (read : schedule_in on ≡ schedule_at f (row_in row) row.dispatched) (some : on.points ≡ 0 → ⊥) where
-  -- it is among the row's schedules
-  pub dispatched_among : row.dispatched < length (schedules_named f (row_in row))
-  unfolding row_in schedule_in
-  dispatched_among = on_something s read some
+-- the curve that is handed out for a schedule of a file
+module _ (f : List ℕ) (s : ScheduleValue) {n : ℕ} {c : List ℕ} (part : c ≡ curve_part f (schedule_in s))
+    (count : n ≡ s.points) where
+  -- has the schedule's points
+  pub handed_out : points_in n c ≡ curve_of f (schedule_in s)
+  unfolding schedule_in
+  handed_out = ap (λ n. points_in n c) count ∙ curve_is f (schedule_in s) part
 
-  -- its points are in order
-  pub dispatched_sound : SoundCurve f (schedule_in on)
-  unfolding row_in
-  dispatched_sound = read_sound s dispatched_among read
+  -- which are those that a row was dispatched on, if it was on this schedule
+  pub dispatched_points : {w : RowWords} → Dispatched f w s → points_in n c ≡ dispatched_curve (row_of f w)
+  dispatched_points {w} d = handed_out ∙ ap (curve_of f) d.says ∙ sym (curve_read f w d.among)
 
-  -- and they are the curve that the row was dispatched on
-  pub dispatched_points : {c : List ℕ} → c ≡ curve_part f (schedule_in on)
-      → points_in on.points c ≡ dispatched_curve (row_of f (row_in row))
-  unfolding row_in schedule_in
-  dispatched_points part = read_curve f (row_in row) dispatched_among read part
-
-  -- so what its curve says of the row, whatever its schedules, is Scheduled
-  pub dispatched_scheduled : {c : List ℕ} → c ≡ curve_part f (schedule_in on) → {kw : ℕ}
-      → ((ss : List Schedule) → kw ≡ scheduled_by (points_in on.points c) (row_with (row_in row) ss))
-      → kw ≡ scheduled (row_of f (row_in row))
+  -- so what the curve says of that row, whatever its schedules, is Scheduled
+  pub dispatched_scheduled : {w : RowWords} → Dispatched f w s → {kw : ℕ}
+      → ((ss : List Schedule) → kw ≡ scheduled_by (points_in n c) (row_with w ss)) → kw ≡ scheduled (row_of f w)
   unfolding scheduled row_of row_with
-  dispatched_scheduled part is =
-      is (row_of f (row_in row)).schedules
-      ∙ ap (λ ps. scheduled_by ps (row_of f (row_in row))) (dispatched_points part)
+  dispatched_scheduled {w} d is =
+      is (row_of f w).schedules ∙ ap (λ ps. scheduled_by ps (row_of f w)) (dispatched_points d)
 
-  -- which is what bonus is cut to
-  pub scheduled_cut : scheduled (row_of f (row_in row)) ≡ bonus_cut (row_of f (row_in row))
-  unfolding row_in
-  scheduled_cut = cut_some (row_of f (row_in row)) (curve_some f (row_in row) dispatched_among s)
+  -- which is what bonus is cut to, if the curve has points
+  pub dispatched_cut : {w : RowWords} → Dispatched f w s → SoundCurve f (schedule_in s) → {kw : ℕ}
+      → ((ss : List Schedule) → kw ≡ scheduled_by (points_in n c) (row_with w ss)) → kw ≡ bonus_cut (row_of f w)
+  dispatched_cut {w} d sound is =
+      let curve = ap length (sym (dispatched_points d) ∙ handed_out) in
+      let long = length_curve f (schedule_in s) in
+      dispatched_scheduled d is ∙ cut_some (row_of f w) (omega (arith, curve, long, count_some sound))
+
+-- a schedule whose points ground 14 does not refuse has some
+pub some_points : {f : List ℕ} (s : ScheduleValue) → SoundCurve f (schedule_in s) → 0 < s.points
+unfolding schedule_in
+some_points s sound = count_some sound
+
+-- what is known of what a schedule counts, and of the highest
+pub ruleset counting = (some_points, handed_out, counted_yes, counted_no)
+
+pub ruleset height = (economic_one, length_schedules, highest_start, highest_end)

@@ -3,11 +3,17 @@
 use Rattle.std.specs.Prelude.{◌≡◌, ℕ, ◌+◌, ◌-◌, ◌*◌, ◌<◌, List, true, false, drop, ℤ}
 use Rattle.std.specs.Int.Signed.{le_z}
 use Rattle.reading.specs.Block.{Terms, most_net_cone, leap_year}
-use Rattle.reading.specs.Interval.{most_kilowatts, point_bytes, point_at, points_in}
+use Rattle.reading.specs.Interval.{most_kilowatts, point_bytes, point_at, points_in, Row, row_of}
+use Rattle.reading.specs.Values.{row_in}
+use Rattle.reading.specs.declared.sound.SoundRow.{SoundRow as SoundRowValue}
 use Rattle.assessment.specs.Assessment.{from_last_reached, Ratio, RowFigures, Account, full_charge}
 use Rattle.assessment.specs.declared.ratio.Ratio.{Ratio as RatioValue}
 use Rattle.assessment.specs.declared.row.Figures.{Figures as FiguresValue}
 use Rattle.assessment.specs.declared.account.Account.{Account as AccountValue}
+
+-- the row of a file that a value says
+abbrev pub row_said : SoundRowValue → Row
+row_said r = row_of r.file.bytes.now (row_in r.words)
 
 -- the ratio that a value says
 unfoldable pub ratio_in : RatioValue → Ratio

@@ -21,6 +21,7 @@ use reading::scan::MOST_KILOWATTS as MOST_WORD;
 // The most kW of a row or an account.
 pub const MOST_KILOWATTS: Kilowatts = Kilowatts(MOST_WORD);
 
+// A factor of the limit, only multiplied.
 const LIMIT_FACTOR: u64 = 3;
 
 // The divisors of the limit and of a charge, and those of 2016. Each division is by a constant, which is fast.

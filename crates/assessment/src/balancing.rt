@@ -2,7 +2,7 @@
 
 ghost use Rattle.std.specs.Prelude.{◌≡◌, false, ◌≤◌};
 ghost use Rattle.reading.specs.Interval.{most_imports, header_of, header_outside, rows_of};
-ghost use Rattle.reading.specs.Values.{header_in, Tabled, Scanned};
+ghost use Rattle.reading.specs.Values.{header_in};
 ghost use Rattle.assessment.specs.Assessment.{import_share, ratio_of};
 ghost use Rattle.assessment.specs.Values.{ratio_in};
 
@@ -10,7 +10,7 @@ use crate::ratio::Ratio;
 use crate::row::{denominator_share, numerator_share};
 use crate::units::{Kilowatts, Quantity};
 use reading::header::Header;
-use reading::rows::row_at;
+use reading::sound::ScannedFile;
 
 // What the net imports add to the numerator: only when region-wide, if positive.
 #[tactic(auto, using(crate::proofs::ValueBounds::net_imports), unfolding(crate::proofs::Opened::import_rule))]
@@ -26,18 +26,17 @@ fn import_share(h: Header) -> Kilowatts
 }
 
 // The ratio of a file that no ground of reading refuses.
-pub fn ratio_of(file: &[u8], h: Header) -> Ratio
-    requires tabled { Tabled file.now h }
-    requires h_value { header_outside (header_in h) ≡ false }
-    requires scanned { Scanned file.now }
-    ensures { ratio_in result ≡ ratio_of (header_of file.now) (rows_of file.now) }
+pub fn ratio_of(scanned: &ScannedFile<'_>) -> Ratio
+    requires { header_outside (header_in scanned.now.file.header) ≡ false }
+    ensures { let f = scanned.now.file.bytes.now in ratio_in result ≡ ratio_of (header_of f) (rows_of f) }
 {
+    let h = scanned.file.header;
     let mut numerator = import_share(h);
     let mut denominator = Kilowatts(0);
     for i in 0..h.rows {
-        let row = row_at(file, h, i);
-        numerator = numerator.plus(numerator_share(file, h, row));
-        denominator = denominator.plus(denominator_share(row));
+        let row = scanned.row(i);
+        numerator = numerator.plus(numerator_share(&row));
+        denominator = denominator.plus(denominator_share(row.words));
     }
     Ratio {
         numerator,

@@ -1,4 +1,4 @@
-// What a curve says at an LMP, of the part of a file that starts at its first point.
+// What a curve says at an LMP.
 
 ghost use Rattle.std.specs.Prelude.{
   ◌≡◌,
@@ -26,25 +26,27 @@ ghost use Rattle.assessment.specs.Assessment.{from_last_reached, along_curve, mi
 ghost use Rattle.assessment.specs.Values.{LastReached};
 
 use crate::units::{Kilowatts, Quantity};
-use reading::rows::{Point, Row, point_at};
+use reading::curve::Curve;
+use reading::rows::{Point, Row};
 
-// Which of n points is the last one priced at or below the LMP.
+// Which of a curve's points is the last one priced at or below the LMP.
 // The search goes down from the final point, so that the first one met is the last of equal prices too.
-fn last_reached(points: &[u8], n: usize, lmp: i64) -> Option<usize>
-    requires { point_bytes * n ≤ length points.now }
+#[tactic(auto, using(crate::proofs::CurveLaws::unreached))]
+fn last_reached(curve: &Curve<'_>, lmp: i64) -> Option<usize>
     ensures { MatchOption result
-        (from_last_reached lmp (points_in n points.now) ≡ [])
-        (LastReached lmp n points.now) }
+        (from_last_reached lmp (points_in curve.now.count curve.now.points.now) ≡ [])
+        (LastReached lmp curve.now.count curve.now.points.now) }
 {
-    for i in (0..n).rev() {
-        if point_at(points, i).price <= lmp {
+    for i in (0..curve.count).rev() {
+        if curve.point(i).price <= lmp {
             return Some(i);
         }
     }
     None
 }
 
-// How far a stands above b: a difference of signed numbers that is not negative.
+// How far a stands above b: a difference of signed numbers that is not negative. The order is known, so that it is
+// taken without the test that abs_diff makes.
 fn gap(a: i64, b: i64) -> u64
     requires order { le_z b a ≡ true }
     requires a_bound { mag a < 2 ^ 62 }
@@ -67,7 +69,7 @@ fn along(base: Kilowatts, part: u64, rise: Kilowatts, whole: u64) -> Kilowatts
 
 // On from a point, the last one reached, towards the next in proportion to price.
 // The next is priced above the LMP, so that the divisor is not 0.
-#[tactic(auto, unfolding(crate::specs::Assessment::along_curve, reading::specs::Values::point_in))]
+#[tactic(auto, unfolding(crate::proofs::Opened::points_along))]
 fn towards(p: Point, next: Point, lmp: i64) -> Kilowatts
     requires price_bound { mag p.price < 2 ^ 31 }
     requires next_price_bound { mag next.price < 2 ^ 31 }
@@ -83,18 +85,18 @@ fn towards(p: Point, next: Point, lmp: i64) -> Kilowatts
 }
 
 // The kW on the curve at the LMP, 0 if no point is reached.
-fn on_curve(points: &[u8], n: usize, lmp: i64) -> Kilowatts
-    requires { point_bytes * n ≤ length points.now }
-    ensures { result.0 ≡ along_curve lmp (from_last_reached lmp (points_in n points.now)) }
+#[tactic(auto, using(crate::proofs::CurveLaws::along_next), unfolding(crate::proofs::Opened::points_along))]
+fn on_curve(curve: &Curve<'_>, lmp: i64) -> Kilowatts
+    ensures { result.0 ≡ along_curve lmp (from_last_reached lmp (points_in curve.now.count curve.now.points.now)) }
 {
-    let Some(i) = last_reached(points, n, lmp) else {
+    let Some(i) = last_reached(curve, lmp) else {
         return Kilowatts(0);
     };
-    let last = point_at(points, i);
-    if i + 1 == n {
+    let last = curve.point(i);
+    if i + 1 == curve.count {
         return Kilowatts(last.kw);
     }
-    towards(last, point_at(points, i + 1), lmp)
+    towards(last, curve.point(i + 1), lmp)
 }
 
 // The economic minimum if online, else 0.
@@ -108,32 +110,31 @@ fn minimum_online(row: Row) -> Kilowatts
     Kilowatts(0)
 }
 
-// Scheduled, of a row by the curve of n points that a part of its file starts with.
-pub fn scheduled(row: Row, points: &[u8], n: usize) -> Kilowatts
-    requires n_nonzero { 0 < n }
-    requires n_in_bounds { point_bytes * n ≤ length points.now }
+// Scheduled, of a row by the curve of one of its schedules.
+pub fn scheduled(row: Row, curve: &Curve<'_>) -> Kilowatts
+    requires { 0 < curve.now.count }
     ensures { (ss : List Schedule) →
-        result.0 ≡ scheduled_by (points_in n points.now) (row_with (row_in row) ss) }
+        result.0 ≡ scheduled_by (points_in curve.now.count curve.now.points.now) (row_with (row_in row) ss) }
 {
     let lmp = row.lmp;
     let least = minimum_online(row);
     let most = Kilowatts(row.maximum);
-    if lmp < point_at(points, 0).price {
+    if lmp < curve.point(0).price {
         return least;
     }
-    if point_at(points, n - 1).price < lmp {
+    if curve.point(curve.count - 1).price < lmp {
         return most;
     }
-    on_curve(points, n, lmp).max(least).min(most)
+    on_curve(curve, lmp).max(least).min(most)
 }
 
-// Whether the last of n points at or below the LMP is above 0 kW.
-pub fn consumes(points: &[u8], n: usize, lmp: i64) -> bool
-    requires { point_bytes * n ≤ length points.now }
-    ensures { result ≡ ltb 0 (first_kw (from_last_reached lmp (points_in n points.now))) }
+// Whether the last of a curve's points at or below the LMP is above 0 kW.
+#[tactic(auto, using(crate::proofs::CurveLaws::first_reached), unfolding(crate::specs::Assessment::first_kw))]
+pub fn consumes(curve: &Curve<'_>, lmp: i64) -> bool
+    ensures { result ≡ ltb 0 (first_kw (from_last_reached lmp (points_in curve.now.count curve.now.points.now))) }
 {
-    match last_reached(points, n, lmp) {
-        Some(i) => 0 < point_at(points, i).kw,
+    match last_reached(curve, lmp) {
+        Some(i) => 0 < curve.point(i).kw,
         None => false,
     }
 }

@@ -8,10 +8,10 @@ ghost use Rattle.reading.specs.Interval.{
   schedule_at,
   schedule_of,
   row_with,
-  row_of,
   row_outside,
 };
-ghost use Rattle.reading.specs.Values.{row_in, Tabled, Sound};
+ghost use Rattle.reading.specs.Kinds.{schedule_kind_number};
+ghost use Rattle.reading.specs.Values.{row_in};
 ghost use Rattle.assessment.specs.Assessment.{
   from_last_reached,
   dispatched_curve,
@@ -24,14 +24,12 @@ ghost use Rattle.assessment.specs.Assessment.{
   available as available_of,
   considered as considered_of,
 };
+ghost use Rattle.assessment.specs.Values.{row_said};
 
 use crate::curve::{consumes, scheduled};
 use crate::units::{Kilowatts, Quantity};
-use reading::header::Header;
-use reading::rows::{
-    ENERGY_ONLY, IMPORTER, MARKET, PRICE_BASED, RESPONSIVE, Row, curve, dispatched_on, schedule_at,
-    schedules,
-};
+use reading::rows::{Kind, Row, ScheduleKind};
+use reading::sound::SoundRow;
 
 // Of a row of kind 0 or 4: to what its actual is cut for the bonus, and the scheduled kW of the economic rule.
 #[derive(Clone, Copy)]
@@ -40,7 +38,7 @@ pub struct Offer {
     pub economic: Kilowatts,
 }
 
-// Owned kW without both outages.
+// Owned kW without both outages. It rests on ground 13 alone; a SoundRow asks for 18 and 14 too.
 #[tactic(auto, using(crate::proofs::ValueBounds::outages_le), unfolding(crate::proofs::Opened::available_rule))]
 pub fn available(row: Row) -> Kilowatts
     requires { row_outside (row_in row) ≡ false }
@@ -53,48 +51,49 @@ pub fn available(row: Row) -> Kilowatts
 // Whether the economic rule of a row dispatched on a schedule of one kind looks at one of another.
 // On a cost schedule it looks at no other, even of its own kind.
 #[tactic(auto, unfolding(crate::specs::Assessment::looks_at))]
-fn looks_at(on: u64, other: u64) -> bool
-    ensures { result ≡ looks_at on other }
+fn looks_at(on: ScheduleKind, other: ScheduleKind) -> bool
+    ensures { result ≡ looks_at (schedule_kind_number on) (schedule_kind_number other) }
 {
     match on {
-        MARKET => true,
-        PRICE_BASED => other != MARKET,
-        _ => false,
+        ScheduleKind::Market => true,
+        ScheduleKind::PriceBased => other != ScheduleKind::Market,
+        ScheduleKind::Cost => false,
     }
 }
 
 // What schedule k of a row counts for the economic rule: its scheduled kW if that looks at it.
-fn counted(file: &[u8], h: Header, row: Row, on: u64, k: usize) -> Kilowatts
-    requires tabled { Tabled file.now h }
-    requires sound { Sound file.now (row_in row) }
-    requires k_in_bounds { k < length (schedules_named file.now (row_in row)) }
-    ensures { let f = file.now in
-        result.0 ≡ counted_for on (row_of f (row_in row)) (schedule_of f (schedule_at f (row_in row) k)) }
+#[tactic(auto, using(crate::proofs::ScheduleLaws::counting), unfolding(crate::proofs::Opened::schedules))]
+fn counted(row: &SoundRow<'_>, on: ScheduleKind, k: usize) -> Kilowatts
+    requires { k < length (schedules_named row.now.file.bytes.now (row_in row.now.words)) }
+    ensures { let f = row.now.file.bytes.now in
+        result.0 ≡ counted_for (schedule_kind_number on) (row_said row.now)
+        (schedule_of f (schedule_at f (row_in row.now.words) k)) }
 {
-    let other = schedule_at(file, h, row, k);
-    if looks_at(on, other.kind) {
-        return scheduled(row, curve(file, h, other), other.points);
+    let other = row.schedule(k);
+    if looks_at(on, other.kind()) {
+        return scheduled(row.words, &row.curve(other));
     }
     Kilowatts(0)
 }
 
 // The highest of a row's own kW, by the schedule that it was dispatched on, and of what its others count.
-fn highest(file: &[u8], h: Header, row: Row, on: u64, own: Kilowatts) -> Kilowatts
-    requires tabled { Tabled file.now h }
-    requires sound { Sound file.now (row_in row) }
-    requires dispatched_in_bounds { row.dispatched < length (schedules_named file.now (row_in row)) }
-    requires on_value { on ≡ (schedule_at file.now (row_in row) row.dispatched).kind }
-    requires own_value { own.0 ≡ scheduled_of (row_of file.now (row_in row)) }
-    ensures { result.0 ≡ economic_scheduled (row_of file.now (row_in row)) }
+#[tactic(auto, using(crate::proofs::ScheduleLaws::height), unfolding(reading::specs::Values::row_in))]
+fn highest(row: &SoundRow<'_>, on: ScheduleKind, own: Kilowatts) -> Kilowatts
+    requires dispatched_in_bounds { row.now.words.dispatched
+        < length (schedules_named row.now.file.bytes.now (row_in row.now.words)) }
+    requires on_value { schedule_kind_number on
+        ≡ (schedule_at row.now.file.bytes.now (row_in row.now.words) row.now.words.dispatched).kind }
+    requires own_value { own.0 ≡ scheduled_of (row_said row.now) }
+    ensures { result.0 ≡ economic_scheduled (row_said row.now) }
 {
-    let count = schedules(h, row);
+    let count = row.schedules();
     if count == 1 {
         return own;
     }
     let mut most = own;
     for k in 0..count {
-        if k != row.dispatched {
-            most = most.max(counted(file, h, row, on, k));
+        if k != row.words.dispatched {
+            most = most.max(counted(row, on, k));
         }
     }
     most
@@ -102,51 +101,43 @@ fn highest(file: &[u8], h: Header, row: Row, on: u64, own: Kilowatts) -> Kilowat
 
 // A row's offer: bonus is cut to the kW of the schedule dispatched on, and the economic rule takes the highest.
 // Without schedules, bonus is cut to what is available, and the economic rule takes the committed kW.
-pub fn offered(file: &[u8], h: Header, row: Row) -> Offer
-    requires tabled { Tabled file.now h }
-    requires sound { Sound file.now (row_in row) }
-    ensures cut_value { result.cut.0 ≡ bonus_cut (row_of file.now (row_in row)) }
-    ensures economic_value { result.economic.0 ≡ economic_scheduled (row_of file.now (row_in row)) }
+#[tactic(auto, using(crate::proofs::ScheduleLaws::some_points), unfolding(crate::proofs::Opened::schedules))]
+pub fn offered(row: &SoundRow<'_>) -> Offer
+    ensures cut_value { result.cut.0 ≡ bonus_cut (row_said row.now) }
+    ensures economic_value { result.economic.0 ≡ economic_scheduled (row_said row.now) }
 {
-    let able = available(row);
-    let on = dispatched_on(file, h, row);
-    if on.points == 0 {
+    let Some(on) = row.dispatched_on() else {
         return Offer {
-            cut: able,
-            economic: Kilowatts(row.committed),
+            cut: available(row.words),
+            economic: Kilowatts(row.words.committed),
         };
-    }
-    let own = scheduled(row, curve(file, h, on), on.points);
+    };
+    let own = scheduled(row.words, &row.curve(on));
     Offer {
         cut: own,
-        economic: highest(file, h, row, on.kind, own),
+        economic: highest(row, on.kind(), own),
     }
 }
 
 // Whether a PRD row is considered: by the curve that it was dispatched on, without one not.
-fn responds(file: &[u8], h: Header, row: Row) -> bool
-    requires tabled { Tabled file.now h }
-    requires sound { Sound file.now (row_in row) }
-    ensures { let row = row_of file.now (row_in row) in
-        result ≡ ltb 0 (first_kw (from_last_reached row.lmp (dispatched_curve row))) }
+fn responds(row: &SoundRow<'_>) -> bool
+    ensures { let r = row_said row.now in
+        result ≡ ltb 0 (first_kw (from_last_reached r.lmp (dispatched_curve r))) }
 {
-    let on = dispatched_on(file, h, row);
-    if on.points == 0 {
-        return false;
+    match row.dispatched_on() {
+        Some(on) => consumes(&row.curve(on), row.words.lmp),
+        None => false,
     }
-    consumes(curve(file, h, on), on.points, row.lmp)
 }
 
-// Whether a row is considered, by the kind word: a PRD row by its curve, an importer by the event.
+// Whether a row is considered, by its kind: a PRD row by its curve, an importer by the event, any other always.
 #[tactic(auto, unfolding(crate::proofs::Opened::by_kind))]
-pub fn considered(file: &[u8], h: Header, row: Row) -> bool
-    requires tabled { Tabled file.now h }
-    requires sound { Sound file.now (row_in row) }
-    ensures { result ≡ considered_of h.region_wide (row_of file.now (row_in row)) }
+pub fn considered(row: &SoundRow<'_>) -> bool
+    ensures { result ≡ considered_of row.now.file.header.region_wide (row_said row.now) }
 {
-    match row.kind {
-        RESPONSIVE => responds(file, h, row),
-        IMPORTER => h.region_wide == 1,
-        kind => kind <= ENERGY_ONLY,
+    let kind = row.kind();
+    if kind == Kind::Responsive {
+        return responds(row);
     }
+    kind != Kind::Importer || row.file.header.region_wide == 1
 }

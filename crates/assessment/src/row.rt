@@ -1,9 +1,10 @@
-// The six figures of a row, and what it adds to the ratio: a match on the kind word chooses expected, bonus cut,
-// excusals and numerator share.
+// The six figures of a row, and what it adds to the ratio: its kind chooses expected, bonus cut, excusals and numerator
+// share. Where a match on the kind would call a function, kinds are compared one by one: the match becomes a jump by a
+// table, with which settling takes a twentieth longer.
 
 ghost use Rattle.std.specs.Prelude.{◌≡◌, false, List, ◌⊎◌, ◌+◌, ◌-◌, ◌≤◌, min};
-ghost use Rattle.reading.specs.Interval.{most_kilowatts, Schedule, row_with, row_of, row_outside};
-ghost use Rattle.reading.specs.Values.{row_in, Tabled, Sound};
+ghost use Rattle.reading.specs.Interval.{most_kilowatts, Schedule, row_with, row_outside};
+ghost use Rattle.reading.specs.Values.{row_in};
 ghost use Rattle.assessment.specs.Assessment.{
   most_actual,
   actual as actual_of,
@@ -14,13 +15,13 @@ ghost use Rattle.assessment.specs.Assessment.{
   numerator_share,
   denominator_share,
 };
-ghost use Rattle.assessment.specs.Values.{ratio_in, figures_in};
+ghost use Rattle.assessment.specs.Values.{ratio_in, figures_in, row_said};
 
 use crate::offer::{available, considered, offered};
 use crate::ratio::Ratio;
 use crate::units::{Kilowatts, Quantity};
-use reading::header::Header;
-use reading::rows::{DEMAND, EFFICIENCY, ENERGY_ONLY, GENERATION, RESPONSIVE, Row};
+use reading::rows::{Kind, Row};
+use reading::sound::SoundRow;
 
 // The first six words of a row in the result, 0 by default.
 #[derive(Clone, Copy, Default)]
@@ -33,7 +34,8 @@ pub struct Figures {
     pub bonus: Kilowatts,
 }
 
-// Actual: metered plus adjustment, or 0 if that is negative.
+// Actual: metered plus adjustment, or 0 if that is negative. It rests on ground 13 alone; a SoundRow asks for 18 and 14
+// too.
 #[tactic(auto, using(crate::proofs::ValueBounds::net_kilowatts), unfolding(crate::proofs::Opened::actual_rule))]
 fn actual(row: Row) -> Kilowatts
     requires { row_outside (row_in row) ≡ false }
@@ -43,16 +45,16 @@ fn actual(row: Row) -> Kilowatts
     Kilowatts::or_zero(row.metered + row.adjustment)
 }
 
-// Expected, by the kind word.
+// Expected, by the kind. It rests on ground 13 alone; a SoundRow asks for 18 and 14 too.
 #[tactic(auto, using(crate::proofs::ValueBounds::committed_le), unfolding(crate::proofs::Opened::by_kind))]
 fn expected(row: Row, ratio: Ratio) -> Kilowatts
     requires { row_outside (row_in row) ≡ false }
     ensures { (ss : List Schedule) → result.0 ≡ expected_of (ratio_in ratio) (row_with (row_in row) ss) }
 {
-    match row.kind {
-        GENERATION => ratio.portion(Kilowatts(row.committed)),
-        DEMAND | EFFICIENCY | RESPONSIVE => Kilowatts(row.committed),
-        _ => Kilowatts(0),
+    match row.kind() {
+        Kind::Generation => ratio.portion(Kilowatts(row.committed)),
+        Kind::Demand | Kind::Efficiency | Kind::Responsive => Kilowatts(row.committed),
+        Kind::EnergyOnly | Kind::Importer => Kilowatts(0),
     }
 }
 
@@ -60,23 +62,22 @@ fn expected(row: Row, ratio: Ratio) -> Kilowatts
 // Economic is how far the least of emergency maximum, expected and available
 // stands above the greater of scheduled and actual.
 #[tactic(auto, unfolding(crate::proofs::Opened::by_kind, crate::specs::Assessment::economic_rule))]
-fn produced(file: &[u8], h: Header, row: Row, act: Kilowatts, expect: Kilowatts) -> Figures
-    requires tabled { Tabled file.now h }
-    requires sound { Sound file.now (row_in row) }
-    requires act_value { act.0 ≡ actual_of (row_of file.now (row_in row)) }
-    ensures { let r = row_of file.now (row_in row) in
+fn produced(row: &SoundRow<'_>, act: Kilowatts, expect: Kilowatts) -> Figures
+    requires { act.0 ≡ actual_of (row_said row.now) }
+    ensures { let r = row_said row.now in
         figures_in result ≡ record {
           expected = expect.0;
           actual = act.0;
-          outage = row.planned;
+          outage = row.now.words.planned;
           economic = economic_rule r expect.0;
-          shortfall = expect.0 - (act.0 + row.planned + economic_rule r expect.0);
+          shortfall = expect.0 - (act.0 + row.now.words.planned + economic_rule r expect.0);
           bonus = min act.0 (bonus_cut r) - expect.0;
         } }
 {
-    let out = Kilowatts(row.planned);
-    let most = Kilowatts(row.maximum).min(expect).min(available(row));
-    let given = offered(file, h, row);
+    let words = row.words;
+    let out = Kilowatts(words.planned);
+    let most = Kilowatts(words.maximum).min(expect).min(available(words));
+    let given = offered(row);
     let econ = most.minus(given.economic.max(act));
     Figures {
         expected: expect,
@@ -109,64 +110,63 @@ fn unexcused(act: Kilowatts, expect: Kilowatts) -> Figures
     }
 }
 
-// A row's figures at a ratio, by the kind word.
+// A row's figures at a ratio, by its kind.
 #[tactic(auto, unfolding(crate::proofs::Opened::by_kind))]
-pub fn row_figures(file: &[u8], h: Header, row: Row, ratio: Ratio) -> Figures
-    requires tabled { Tabled file.now h }
-    requires sound { Sound file.now (row_in row) }
-    ensures { figures_in result ≡ row_figures h.region_wide (ratio_in ratio) (row_of file.now (row_in row)) }
+pub fn row_figures(row: &SoundRow<'_>, ratio: Ratio) -> Figures
+    ensures { figures_in result
+        ≡ row_figures row.now.file.header.region_wide (ratio_in ratio) (row_said row.now) }
 {
-    let act = actual(row);
-    let expect = expected(row, ratio);
-    match row.kind {
-        GENERATION | ENERGY_ONLY => produced(file, h, row, act, expect),
-        _ if considered(file, h, row) => unexcused(act, expect),
-        _ => Figures::default(),
+    let act = actual(row.words);
+    let expect = expected(row.words, ratio);
+    let kind = row.kind();
+    if kind == Kind::Generation || kind == Kind::EnergyOnly {
+        return produced(row, act, expect);
     }
+    if considered(row) {
+        return unexcused(act, expect);
+    }
+    Figures::default()
 }
 
 // What a demand or PRD row that is considered adds to the numerator: its bonus, of which the committed kW are expected.
-// Apart from kinds 0 and 4, which most rows are of: one match on all kinds becomes a jump by a table, which is slower.
+// Apart from kinds 0 and 4, which most rows are of.
 #[tactic(auto, unfolding(crate::proofs::Opened::by_kind))]
-fn reduction(file: &[u8], h: Header, row: Row, act: Kilowatts) -> Kilowatts
-    requires tabled { Tabled file.now h }
-    requires sound { Sound file.now (row_in row) }
-    requires act_value { act.0 ≡ actual_of (row_of file.now (row_in row)) }
-    requires not_producing { (row.kind ≡ 0) ⊎ (row.kind ≡ 4) → ⊥ }
-    ensures { result.0 ≡ numerator_share h.region_wide (row_of file.now (row_in row)) }
+fn reduction(row: &SoundRow<'_>, act: Kilowatts) -> Kilowatts
+    requires act_value { act.0 ≡ actual_of (row_said row.now) }
+    requires not_producing { (row.now.words.kind ≡ 0) ⊎ (row.now.words.kind ≡ 4) → ⊥ }
+    ensures { result.0 ≡ numerator_share row.now.file.header.region_wide (row_said row.now) }
 {
-    let over = act.minus(Kilowatts(row.committed));
-    match row.kind {
-        DEMAND => over,
-        RESPONSIVE if considered(file, h, row) => over,
-        _ => Kilowatts(0),
+    let over = act.minus(Kilowatts(row.words.committed));
+    let kind = row.kind();
+    if kind == Kind::Demand || kind == Kind::Responsive && considered(row) {
+        return over;
     }
+    Kilowatts(0)
 }
 
-// What a row adds to the numerator, by the kind word.
+// What a row adds to the numerator, by its kind.
 #[tactic(auto, unfolding(crate::proofs::Opened::by_kind))]
-pub fn numerator_share(file: &[u8], h: Header, row: Row) -> Kilowatts
-    requires tabled { Tabled file.now h }
-    requires sound { Sound file.now (row_in row) }
-    ensures result_value { result.0 ≡ numerator_share h.region_wide (row_of file.now (row_in row)) }
+pub fn numerator_share(row: &SoundRow<'_>) -> Kilowatts
+    ensures result_value { result.0 ≡ numerator_share row.now.file.header.region_wide (row_said row.now) }
     ensures result_le_most_actual { result.0 ≤ most_actual }
 {
-    let act = actual(row);
-    match row.kind {
-        GENERATION | ENERGY_ONLY => act,
-        _ => reduction(file, h, row, act),
+    let act = actual(row.words);
+    let kind = row.kind();
+    if kind == Kind::EnergyOnly || kind == Kind::Generation {
+        return act;
     }
+    reduction(row, act)
 }
 
-// What a row adds to the denominator, by the kind word.
+// What a row adds to the denominator, by its kind. It rests on ground 13 alone; a SoundRow asks for 18 and 14 too.
 #[tactic(auto, using(crate::proofs::ValueBounds::committed_le), unfolding(crate::proofs::Opened::by_kind))]
 pub fn denominator_share(row: Row) -> Kilowatts
     requires { row_outside (row_in row) ≡ false }
     ensures result_value { (ss : List Schedule) → result.0 ≡ denominator_share (row_with (row_in row) ss) }
     ensures result_le_most_kilowatts { result.0 ≤ most_kilowatts }
 {
-    match row.kind {
-        GENERATION => Kilowatts(row.committed),
+    match row.kind() {
+        Kind::Generation => Kilowatts(row.committed),
         _ => Kilowatts(0),
     }
 }

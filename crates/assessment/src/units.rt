@@ -9,7 +9,7 @@ pub struct Kilowatts(pub u64);
 #[derive(Clone, Copy, PartialEq, Eq, PartialOrd, Ord)]
 pub struct Cents(pub u64);
 
-// A number of one unit, whose sums and differences are of that unit.
+// A number of one unit, whose sums and differences are of that unit: u64's own + would add kW to cents.
 pub trait Quantity: Copy {
     ghost number: { Self → ℕ };
 
@@ -26,7 +26,7 @@ pub trait Quantity: Copy {
         Self::of(self.number() + other.number())
     }
 
-    // These less the others, at least 0.
+    // These less the others, at least 0: u64's own - would go below.
     final fn minus(self, other: Self) -> Self
         ensures { number result ≡ number self - number other }
     {
@@ -65,6 +65,6 @@ impl Kilowatts {
     pub fn or_zero(signed: i64) -> Kilowatts
         ensures { result.0 ≡ or_zero signed }
     {
-        Kilowatts(signed.max(0) as u64)
+        Kilowatts(signed.max(0).unsigned_abs())
     }
 }

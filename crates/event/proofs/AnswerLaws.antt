@@ -4,10 +4,12 @@ use mathlib.Core.Path.{◌≡◌, sym, ap, ◌∙◌}
 use mathlib.Core.List.{List, [], ◌∷◌}
 use lib.ListN.{length}
 use borrow.Author.Tests.{lt-ltb, le-ltb}
+use Rattle.std.specs.Prelude.{Result}
 use Rattle.words.specs.Words.{written, written_at}
+use Rattle.words.specs.Refusals.{answer_of}
+use Rattle.words.specs.declared.refusal.Refusal.{Refusal}
 use Rattle.event.specs.Event.{count_bytes, count_too_short, Settled, settled_files, event}
 use Rattle.event.specs.Code.{FilesSettled}
-use Rattle.event.specs.declared.Settled.{Settled as SettledValue}
 
 module _ (ledger files result count : List ℕ) where
   -- what the files leave
@@ -35,13 +37,13 @@ module _ (ledger files result count : List ℕ) where
       (ap (λ e. e.refusal) is, (ap (λ e. e.ledger) is, (ap (λ e. e.result) is, ap (λ e. e.count) is)))
 
   -- with room, the answer and the buffers, once the number is written
-  pub long_answer : (after put counted : List ℕ) (v : SettledValue) → count_bytes ≤ length count
-      → FilesSettled s after put v
-      → counted ≡ written_at 0 (v.files ∷ []) count
+  pub long_answer : (after put counted : List ℕ) (number : ℕ) (r : Result (Unit {0}) Refusal)
+      → count_bytes ≤ length count → FilesSettled s after put number r
+      → counted ≡ written_at 0 (number ∷ []) count
       → let e = event ledger files result count in
-      (v.refusal ≡ e.refusal) × ((after ≡ e.ledger) × ((put ≡ e.result) × (counted ≡ e.count)))
+      (answer_of r ≡ e.refusal) × ((after ≡ e.ledger) × ((put ≡ e.result) × (counted ≡ e.count)))
   unfolding written_at
-  long_answer after put counted v room settled writes =
+  long_answer after put counted number r room settled writes =
       let is = sym (with_room room) in (
         settled.refusal ∙ ap (λ e. e.refusal) is,
         (

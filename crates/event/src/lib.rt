@@ -2,130 +2,103 @@
 
 #![tactic(auto)]
 
-ghost use Rattle.std.specs.Prelude.{◌≡◌, ◌+◌, ◌≤◌, ◌<◌, length};
+ghost use Rattle.std.specs.Prelude.{◌≡◌, ◌+◌, ◌<◌, length};
+ghost use Rattle.std.specs.Iterator.{at_most};
+ghost use Rattle.words.specs.Refusals.{answer_of};
 ghost use Rattle.event.specs.Event.{settled_files, event as event_of};
-ghost use Rattle.event.specs.Code.{FileDue, TurnTaken, FilesSettled};
+ghost use Rattle.event.specs.Code.{FileDue, GivesFile, TurnTaken, FilesSettled};
 
 use reading::header::header_of;
 use settling::call::settle_file;
 use settling::result::result_bytes;
 use stream::LENGTH_BYTES;
-use words::{Word, put};
+use words::refusal::Refusal;
+use words::{put, size};
 
 const COUNT_BYTES: usize = 8;
 
-// Where the file that is due stands, if it is whole.
-#[derive(Clone, Copy)]
-struct Place {
-    whole: bool,
-    from: usize,
-    to: usize,
-}
-
-// What the turn of a file leaves: 0 or its ground, and where the results end.
-#[derive(Clone, Copy)]
-struct Turn {
-    refusal: u32,
-    filled: usize,
-}
-
-// 0 or the ground of the file that was refused, and the number of files settled.
-#[derive(Clone, Copy)]
-struct Settled {
-    refusal: u32,
-    files: u64,
-}
-
-// The place of the file that is due, where bytes are left.
-fn next_file(files: &[u8], at: usize) -> Place
-    requires { at < length files.now }
-    ensures { FileDue files.now at result }
+// The file at the front of what is left of an event, after its length, and what follows it.
+fn next_file(files: &[u8]) -> Result<(&[u8], &[u8]), Refusal>
+    requires { 0 < length files.now }
+    ensures { FileDue files.now result }
 {
-    let left = files.len() - at;
-    if left < LENGTH_BYTES {
-        return Place {
-            whole: false,
-            from: at,
-            to: at,
-        };
-    }
-    let from = at + LENGTH_BYTES;
-    let bytes = u32::number(files, at) as usize;
-    if left - LENGTH_BYTES < bytes {
-        return Place {
-            whole: false,
-            from: at,
-            to: at,
-        };
-    }
-    Place {
-        whole: true,
-        from,
-        to: from + bytes,
+    let Some((head, rest)) = files.split_at_checked(LENGTH_BYTES) else {
+        return Err(Refusal::FileCut);
+    };
+    rest.split_at_checked(size(head, 0)).ok_or(Refusal::FileCut)
+}
+
+// What is left of the files of an event.
+#[derive(Drop)]
+struct Files<'a> {
+    rest: &'a [u8],
+}
+
+impl<'a> Iterator for Files<'a> {
+    type Item = Result<&'a [u8], Refusal>;
+
+    ghost next_gives = { GivesFile };
+
+    ghost remaining = { λ files. at_most (length files.rest.now) };
+
+    // The next file; after one that is cut there is none.
+    fn next(&mut self) -> Option<Result<&'a [u8], Refusal>> {
+        if self.rest.is_empty() {
+            return None;
+        }
+        match next_file(self.rest) {
+            Ok((file, rest)) => {
+                self.rest = rest;
+                Some(Ok(file))
+            }
+            Err(refusal) => {
+                self.rest = &[];
+                Some(Err(refusal))
+            }
+        }
     }
 }
 
-// Settles a file into what is left of the result.
-fn settle_next(ledger: &mut [u8], file: &[u8], res: &mut [u8], filled: usize) -> Turn
-    requires { filled ≤ length res.old }
-    ensures { TurnTaken ledger.old file.now res.old filled
-        ledger.new res.new result }
+// Settles a file into what is left of the result, and answers how much of that it fills.
+fn settle_next(ledger: &mut [u8], file: &[u8], res: &mut [u8]) -> Result<usize, Refusal>
+    ensures { TurnTaken ledger.old file.now res.old ledger.new res.new result }
 {
-    let ground = settle_file(ledger, file, &mut res[filled..]);
-    if ground != 0 {
-        return Turn {
-            refusal: ground,
-            filled,
-        };
-    }
-    let rows = header_of(file).rows;
-    Turn {
-        refusal: ground,
-        filled: filled + result_bytes(rows),
-    }
+    settle_file(ledger, file, res)?;
+    Ok(result_bytes(header_of(file).rows))
 }
 
-// Settles files in order, up to the first that is refused; results follow each other.
-fn settle_files(ledger: &mut [u8], files: &[u8], res: &mut [u8]) -> Settled
+// Settles files in order, up to the first that is refused, and counts those settled; results follow each other.
+fn settle_files(
+    ledger: &mut [u8],
+    files: &[u8],
+    res: &mut [u8],
+    settled: &mut u64,
+) -> Result<(), Refusal>
     ensures { FilesSettled
         (settled_files (length files.now + 1)
         ledger.old files.now res.old)
-        ledger.new res.new result }
+        ledger.new res.new settled.new result }
 {
-    let mut settled = 0;
-    let mut at = 0;
+    *settled = 0;
     let mut filled = 0;
-    while at < files.len() {
-        let place = next_file(files, at);
-        if !place.whole {
-            return Settled {
-                refusal: 22,
-                files: settled,
-            };
-        }
-        let from = place.from;
-        let to = place.to;
-        let turn = settle_next(ledger, &files[from..to], res, filled);
-        if turn.refusal != 0 {
-            return Settled {
-                refusal: turn.refusal,
-                files: settled,
-            };
-        }
-        filled = turn.filled;
-        settled += 1;
-        at = to;
+    for found in (Files { rest: files }) {
+        let file = found?;
+        let bytes = settle_next(ledger, file, &mut res[filled..])?;
+        filled += bytes;
+        *settled += 1;
     }
-    Settled {
-        refusal: 0,
-        files: settled,
-    }
+    Ok(())
 }
 
-// Settles an event, and writes how many of its files were settled: answers 0, the ground of the first file refused,
-// or 20 where there is no room for that number.
-pub fn settle_event(ledger: &mut [u8], files: &[u8], res: &mut [u8], count: &mut [u8]) -> u32
-    ensures answer { result ≡ (event_of ledger.old files.now res.old count.old).refusal }
+// Settles an event up to the first file that is refused, answers its ground, and writes how many files were settled.
+// Where there is no room for that number it answers so, and leaves every buffer as it was.
+pub fn settle_event(
+    ledger: &mut [u8],
+    files: &[u8],
+    res: &mut [u8],
+    count: &mut [u8],
+) -> Result<(), Refusal>
+    ensures answer { answer_of result ≡ (event_of ledger.old files.now res.old count.old).refusal }
     ensures ledger_bytes { ledger.new
         ≡ (event_of ledger.old files.now res.old count.old).ledger }
     ensures result_bytes { res.new
@@ -134,9 +107,10 @@ pub fn settle_event(ledger: &mut [u8], files: &[u8], res: &mut [u8], count: &mut
         ≡ (event_of ledger.old files.now res.old count.old).count }
 {
     if count.len() < COUNT_BYTES {
-        return 20;
+        return Err(Refusal::CountTooShort);
     }
-    let settled = settle_files(ledger, files, res);
-    put::<u64>(count, 0, settled.files);
-    settled.refusal
+    let mut settled = 0;
+    let outcome = settle_files(ledger, files, res, &mut settled);
+    put::<u64>(count, 0, settled);
+    outcome
 }

@@ -4,6 +4,7 @@ ghost use Rattle.std.specs.Prelude.{◌≡◌};
 ghost use Rattle.ledger.specs.Figures.{listing_block};
 ghost use Rattle.settling.specs.Figures.{listing_file};
 
+use crate::layout::Point;
 use words::store;
 
 const BLOCK: [u64; 9] = [1, 30000, 365, 4, 20, 11, 12, 13, 14];
@@ -17,9 +18,9 @@ const FILE: [u64; 78] = [
 ];
 
 // Curve A, and the curve of row 12.
-pub const CURVE_11: [u64; 4] = [1000, 20000, 5000, 100000];
+pub const CURVE_11: [Point; 2] = [[1000, 20000], [5000, 100000]];
 
-pub const CURVE_12: [u64; 4] = [1000, 10000, 6000, 50000];
+pub const CURVE_12: [Point; 2] = [[1000, 10000], [6000, 50000]];
 
 pub fn block() -> [u8; 36]
     ensures { result ≡ listing_block }

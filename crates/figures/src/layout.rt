@@ -4,6 +4,5 @@
 // first point, points.
 pub type Row = [u64; 14];
 
-// The words of a header: format, interval, Net CONE, days, region-wide, imports, rows, their offset,
-// points, their offset.
-pub type Header = [u64; 10];
+// The words of a point: price, kW.
+pub type Point = [u64; 2];

@@ -12,11 +12,11 @@ use Rattle.words.specs.Lists.{sum, any, rises_above}
 use Rattle.words.specs.Grounds.{outside}
 use Rattle.words.proofs.Tests.{facts, lies_inside, lies_below, lies_above}
 use Rattle.reading.specs.Block.{Terms, most_ids, terms_outside, year_outside, ids_out_of_order}
-use Rattle.reading.specs.Interval.{intervals_per_day, most_kilowatts}
+use Rattle.reading.specs.Interval.{intervals_per_day}
 use Rattle.reading.specs.Values.{terms_in}
 use Rattle.reading.proofs.Bounds.{terms_in_lem}
 use Rattle.reading.proofs.Order.{order_is}
-use Rattle.assessment.specs.Assessment.{most_cents, Account, limit}
+use Rattle.assessment.specs.Assessment.{most_cents, Account}
 use Rattle.assessment.proofs.Limits.{most_limit, limit_le}
 use Rattle.ledger.specs.Ledger.{
   ledger_header_bytes,
@@ -88,19 +88,6 @@ module _ (t : Terms) (n bytes earliest carried : ℕ) where
         le-ltb (intervals_per_day * t.days) earliest early,
       )
 
--- an account, its limit being known
-module _ (t : Terms) (a : Account) (most : ℕ) (e : most ≡ limit t a.largest) where
-  -- a charged sum above the limit of the largest commitment puts it outside its bounds
-  pub charged_high : ltb most a.charged ≡ true → account_outside t a ≡ true
-  unfolding account_outside
-  charged_high h = rw (← e, h, or-true)
-
-  -- with commitment and charged sum within their bounds, the credited sum decides
-  pub credited_decides : ltb most_kilowatts a.largest ≡ false → ltb most a.charged ≡ false
-      → account_outside t a ≡ ltb most_credited a.credited
-  unfolding account_outside
-  credited_decides low h = rw (← e, low, h)
-
 -- whether ground 6 refuses accounts whose ids must rise from above a number on,
 -- with so much charged and credited before them
 abbrev pub refused_from : Terms → ℕ → ℕ → ℕ → List Account → Bool
@@ -155,13 +142,18 @@ module _ {b : List ℕ} {s : StandingValue} {last charged credited j : ℕ} (p :
   unfolding rises_above
   id_low h = next ∙ rw (le-ltb last a.id h)
 
-  -- so does an account outside its bounds
-  pub account_refused : account_outside (terms_in s.terms) a ≡ true → accounts_refused b ≡ true
-  unfolding any
-  account_refused e = next ∙ rw (e, or-true)
+  -- whether the account is outside its bounds, as the code asks
+  module _ {outside : Bool} (asks : outside ≡ account_outside (terms_in s.terms) a) where
+    -- one that is refuses
+    pub account_refused : outside ≡ true → accounts_refused b ≡ true
+    unfolding any
+    account_refused refuses = next ∙ rw (sym asks ∙ refuses, or-true)
 
   module _ (terms : terms_outside (terms_in s.terms) ≡ false)
-      (e : account_outside (terms_in s.terms) a ≡ false) where
+      {outside : Bool} (asks : outside ≡ account_outside (terms_in s.terms) a) (not_outside : outside ≡ false) where
+    e : account_outside (terms_in s.terms) a ≡ false
+    e = sym asks ∙ not_outside
+
     -- else its charged sum is no more than the largest limit
     pub charged_most : a.charged ≤ most_limit
     charged_most =

@@ -1,6 +1,6 @@
 -- What the tests that opening makes say of its answer, and what it writes.
 use Prim.Native.Nat.{ℕ, ◌+◌, ◌≤◌, ◌<◌}
-use mathlib.Core.Path.{◌≡◌, sym, ap, ap₂, subst, ◌∙◌}
+use mathlib.Core.Path.{◌≡◌, sym, ap, ap₂, ◌∙◌}
 use mathlib.Core.List.{List, [], ◌∷◌, map}
 use mathlib.Core.Bool.{Bool, true, false}
 use native.Mathlib.Omega.{arith}
@@ -9,17 +9,7 @@ use borrow.Author.Tests.{lt-ltb, le-ltb, ne_eqb}
 use Rattle.words.specs.Words.{written, written_at}
 use Rattle.words.specs.Grounds.{answered}
 use Rattle.words.proofs.Access.{written_behind}
-use Rattle.reading.specs.Block.{
-  Terms,
-  block_header_bytes,
-  block_words,
-  block_of,
-  not_a_block,
-  terms_outside,
-  year_unknown,
-  ids_misplaced,
-  ids_out_of_order,
-}
+use Rattle.reading.specs.Block.{Terms, block_words, block_of, not_a_block, terms_outside, year_unknown, ids_misplaced, ids_out_of_order}
 use Rattle.reading.specs.Values.{terms_in, block_in, BlockRead, Listed}
 use Rattle.reading.specs.declared.block.Block.{Block as BlockValue}
 use Rattle.reading.proofs.Facts.{block_read, listed, terms_of_block, length_listed}
@@ -132,20 +122,6 @@ pub ruleset tests = (
   opening_5,
   opening_0,
 )
-
--- where no ground applies, the ids of a value that says the block's words lie within the block
-pub accepted_listed : (b l : List ℕ) (v : BlockValue) → answered (opening_grounds b l) ≡ 0 → block_in v ≡ block_words b
-    → Listed b v
-unfolding block_in
-accepted_listed b l v e says =
-    let a = block_accepted b l e in
-    let count = ap (λ w. w.id_count) says in
-    let place = ap (λ w. w.ids_offset) says in
-    record {
-      read = record { long = subst (λ w. block_header_bytes w.format ≤ length b) (sym says) a.header; says = says };
-      few = omega (arith, a.few, count);
-      ids_lie = omega (arith, a.placed, count, place);
-    }
 
 -- and the ledger buffer has room for them
 pub accepted_room : (b l : List ℕ) (v : BlockValue) → answered (opening_grounds b l) ≡ 0 → block_in v ≡ block_words b

@@ -20,7 +20,7 @@ ghost use Rattle.ledger.specs.Ledger.{
 };
 ghost use Rattle.ledger.specs.Values.{standing_in, LedgerRead};
 
-use crate::layout::{Accounts, Standing, ledger_bytes, not_laid_out, standing_of};
+use crate::layout::{Accounts, Standing, account_at, ledger_bytes, not_laid_out, standing_of};
 use assessment::account::{Account, MOST_KILOWATTS, limit};
 use assessment::units::{Cents, Quantity};
 use reading::block::{MOST_IDS, Terms, terms_outside, year_outside};
@@ -32,6 +32,7 @@ pub const MOST_CARRIED: Cents = Cents(1099511627775);
 const MOST_CREDITED: Cents = Cents(224870400000000);
 
 // Whether no ledger has these terms: as ground 2 has them, and a year, other than 0, as ground 23 does.
+// Here and below each test returns, so that a proof of its own says what it decides.
 fn terms_refused(terms: Terms) -> bool
     ensures { result ≡ ledger_terms_outside (terms_in terms) }
 {
@@ -59,7 +60,7 @@ fn standing_outside(ledger: &[u8], s: Standing) -> bool
     if s.accounts < 1 {
         return true;
     }
-    if MOST_IDS < s.accounts as u64 {
+    if MOST_IDS < s.accounts {
         return true;
     }
     if ledger.len() < ledger_bytes(s.accounts) {
@@ -88,6 +89,7 @@ fn account_outside(terms: Terms, a: Account) -> bool
 
 // Whether ids do not rise from above 0 on, an account is outside its bounds,
 // or charged sums are not credited sums plus carried.
+#[tactic(auto, unfolding(crate::specs::Ledger::ledger_bytes))]
 fn accounts_refused(accounts: Accounts, s: Standing) -> bool
     requires says { standing_in s ≡ standing_of accounts.bytes.now }
     requires terms_inside { terms_outside (terms_in s.terms) ≡ false }
@@ -100,7 +102,7 @@ fn accounts_refused(accounts: Accounts, s: Standing) -> bool
     let mut charged = Cents(0);
     let mut credited = s.carried;
     for j in 0..accounts.count {
-        let a = accounts.at(j);
+        let a = account_at(accounts.bytes, j);
         if a.id <= last {
             return true;
         }

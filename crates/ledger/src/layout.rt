@@ -22,6 +22,7 @@ use assessment::units::{Cents, Kilowatts};
 use reading::block::{MOST_IDS, Terms};
 use words::{Word, store};
 
+// A ledger has this one format, so that there is no kind to tell apart.
 const LEDGER_FORMAT: u64 = 1;
 
 const ACCOUNTS_OFFSET: u64 = 8;
@@ -31,7 +32,7 @@ const STANDING_BYTES: usize = 64;
 const ACCOUNT_BYTES: usize = 32;
 
 // Bytes of a ledger of the most accounts.
-pub const MOST_LEDGER_BYTES: usize = STANDING_BYTES + ACCOUNT_BYTES * MOST_IDS as usize;
+pub const MOST_LEDGER_BYTES: usize = STANDING_BYTES + ACCOUNT_BYTES * MOST_IDS;
 
 // What stands before the accounts: the terms, the earliest interval still accepted,
 // the cents carried and the number of accounts.
@@ -89,32 +90,35 @@ pub fn standing_of(ledger: &[u8]) -> Standing
         terms,
         earliest: u64::number(ledger, 24),
         carried: Cents(u64::number(ledger, 32)),
+        // A size has 64 bits here: a conversion that can fail would test what always holds.
         accounts: u64::number(ledger, 40) as usize,
     }
 }
 
-#[tactic(auto, unfolding(crate::specs::Ledger::ledger_bytes))]
-impl Accounts<'_> {
-    // The id of account j.
-    pub fn id(self, j: usize) -> u64
-        requires { j < self.count }
-        ensures { result ≡ (account_at (drop (ledger_bytes j) self.entry.bytes.now)).id }
-    {
-        u64::number(self.bytes, ledger_bytes(j))
-    }
+// That the buffer has room for account j, the functions below require: a pass writes accounts between its reads,
+// so that no value can hold it throughout.
 
-    // Account j.
-    pub fn at(self, j: usize) -> Account
-        requires { j < self.count }
-        ensures { account_in result ≡ account_at (drop (ledger_bytes j) self.entry.bytes.now) }
-    {
-        let at = ledger_bytes(j);
-        Account {
-            id: u64::number(self.bytes, at),
-            largest: Kilowatts(u64::number(self.bytes, at + 8)),
-            charged: Cents(u64::number(self.bytes, at + 16)),
-            credited: Cents(u64::number(self.bytes, at + 24)),
-        }
+// The id of account j.
+#[tactic(auto, unfolding(crate::specs::Ledger::ledger_bytes))]
+pub fn account_id(ledger: &[u8], j: usize) -> u64
+    requires { ledger_bytes (j + 1) ≤ length ledger.now }
+    ensures { result ≡ (account_at (drop (ledger_bytes j) ledger.now)).id }
+{
+    u64::number(ledger, ledger_bytes(j))
+}
+
+// Account j.
+#[tactic(auto, unfolding(crate::specs::Ledger::ledger_bytes))]
+pub fn account_at(ledger: &[u8], j: usize) -> Account
+    requires { ledger_bytes (j + 1) ≤ length ledger.now }
+    ensures { account_in result ≡ account_at (drop (ledger_bytes j) ledger.now) }
+{
+    let at = ledger_bytes(j);
+    Account {
+        id: u64::number(ledger, at),
+        largest: Kilowatts(u64::number(ledger, at + 8)),
+        charged: Cents(u64::number(ledger, at + 16)),
+        credited: Cents(u64::number(ledger, at + 24)),
     }
 }
 
@@ -130,6 +134,7 @@ pub fn write_standing(ledger: &mut [u8], s: Standing)
         terms.days,
         s.earliest,
         s.carried.0,
+        // Nothing is lost: a size has 64 bits here.
         s.accounts as u64,
         ACCOUNTS_OFFSET,
         terms.year,

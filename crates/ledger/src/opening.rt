@@ -1,10 +1,10 @@
 // Opening: from an opening block to a ledger.
 
-ghost use Rattle.std.specs.Prelude.{◌≡◌, map, ◌≤◌, length};
+ghost use Rattle.std.specs.Prelude.{◌≡◌, map, ◌≤◌, length, IfOk};
 ghost use Rattle.words.specs.Words.{written, written_at};
 ghost use Rattle.words.specs.Grounds.{answered};
-ghost use Rattle.reading.specs.Block.{block_words, block_of};
-ghost use Rattle.reading.specs.Values.{Listed};
+ghost use Rattle.words.specs.Refusals.{answer_of};
+ghost use Rattle.reading.specs.Block.{block_of};
 ghost use Rattle.assessment.specs.Assessment.{empty_account};
 ghost use Rattle.ledger.specs.Ledger.{ledger_header_bytes, ledger_bytes, account_words, ledger_words};
 ghost use Rattle.ledger.specs.Opening.{opening_grounds, opened_ledger, opening as opening_of};
@@ -12,78 +12,73 @@ ghost use Rattle.ledger.specs.Opening.{opening_grounds, opened_ledger, opening a
 use crate::layout::{Standing, ledger_bytes, write_account, write_standing};
 use assessment::account::Account;
 use assessment::units::Cents;
-use reading::block::{
-    Block, block_of, id_at, ids_misplaced, ids_out_of_order, not_a_block, terms_outside,
-    year_unknown,
-};
+use reading::block::{block_of, not_a_block, terms_outside, year_unknown};
+use reading::listed::ListedBlock;
+use words::refusal::Refusal;
 
-// The first of grounds 1, 2, 23, 3, 4 and 5 that applies, or 0.
+// A block that the buffer has room for, or the first of grounds 1, 2, 23, 3, 4 and 5 that applies.
 #[tactic(auto, using(crate::proofs::OpeningLaws::tests))]
-fn opening_ground(block: &[u8], ledger: &[u8]) -> u32
-    ensures { result ≡ answered (opening_grounds block.now ledger.now) }
+fn accepted<'a>(block: &'a [u8], ledger: &[u8]) -> Result<ListedBlock<'a>, Refusal>
+    ensures answer { answer_of result ≡ answered (opening_grounds block.entry.now ledger.now) }
+    ensures bytes { IfOk result (λ listed. listed.bytes.now ≡ block.entry.now) }
 {
     if not_a_block(block) {
-        return 1;
+        return Err(Refusal::NotABlock);
     }
     let b = block_of(block);
-    let terms = b.terms;
-    if terms_outside(terms) {
-        return 2;
+    if terms_outside(b.terms) {
+        return Err(Refusal::TermsOutside);
     }
     if year_unknown(b) {
-        return 23;
+        return Err(Refusal::YearUnknown);
     }
-    if ids_misplaced(block, b) {
-        return 3;
-    }
-    if ids_out_of_order(block, b) {
-        return 4;
+    let Some(listed) = ListedBlock::of(block, b) else {
+        return Err(Refusal::IdsMisplaced);
+    };
+    if listed.ids_out_of_order() {
+        return Err(Refusal::IdsOutOfOrder);
     }
     if ledger.len() < ledger_bytes(b.ids) {
-        return 5;
+        return Err(Refusal::LedgerTooShort);
     }
-    0
+    Ok(listed)
 }
 
 // Writes an account for each id, with nothing in it.
-fn write_accounts(block: &[u8], b: Block, ledger: &mut [u8])
-    requires listed { Listed block.now b }
-    requires ids_in_bounds { ledger_bytes b.ids ≤ length ledger.old }
+#[tactic(auto, unfolding(crate::specs::Ledger::ledger_bytes))]
+fn write_accounts(listed: &ListedBlock<'_>, ledger: &mut [u8])
+    requires { ledger_bytes listed.now.block.ids ≤ length ledger.old }
     ensures { ledger.new
-        ≡ written_at ledger_header_bytes (account_words (map empty_account (block_of block.now).ids))
+        ≡ written_at ledger_header_bytes (account_words (map empty_account (block_of listed.now.bytes.now).ids))
         ledger.old }
 {
-    for i in 0..b.ids {
-        write_account(ledger, i, Account::empty(id_at(block, b, i)));
+    for i in 0..listed.block.ids {
+        write_account(ledger, i, Account::empty(listed.id(i)));
     }
 }
 
 // Writes the ledger of a block that no ground refuses.
-fn write_opened(block: &[u8], b: Block, ledger: &mut [u8])
-    requires listed { Listed block.now b }
-    requires ids_in_bounds { ledger_bytes b.ids ≤ length ledger.old }
-    ensures { ledger.new ≡ written (ledger_words (opened_ledger block.now)) ledger.old }
+fn write_opened(listed: &ListedBlock<'_>, ledger: &mut [u8])
+    requires { ledger_bytes listed.now.block.ids ≤ length ledger.old }
+    ensures { ledger.new ≡ written (ledger_words (opened_ledger listed.now.bytes.now)) ledger.old }
 {
-    let terms = b.terms;
+    let b = listed.block;
     let standing = Standing {
-        terms,
+        terms: b.terms,
         earliest: 0,
         carried: Cents(0),
         accounts: b.ids,
     };
     write_standing(ledger, standing);
-    write_accounts(block, b, ledger);
+    write_accounts(listed, ledger);
 }
 
-// Opens a ledger: answers 0, or the first ground of opening that applies and leaves the ledger as it was.
-pub fn open(block: &[u8], ledger: &mut [u8]) -> u32
-    ensures answer { result ≡ (opening_of block.now ledger.old).refusal }
+// Opens a ledger, or answers the first ground of opening that applies and leaves the ledger as it was.
+pub fn open(block: &[u8], ledger: &mut [u8]) -> Result<(), Refusal>
+    ensures answer { answer_of result ≡ (opening_of block.now ledger.old).refusal }
     ensures buffer { ledger.new ≡ (opening_of block.now ledger.old).ledger }
 {
-    let ground = opening_ground(block, ledger);
-    if ground != 0 {
-        return ground;
-    }
-    write_opened(block, block_of(block), ledger);
-    0
+    let listed = accepted(block, ledger)?;
+    write_opened(&listed, ledger);
+    Ok(())
 }

@@ -7,7 +7,7 @@ ghost use Rattle.ledger.specs.Ledger.{ledger_of, ids_in};
 ghost use Rattle.ledger.specs.Values.{before};
 ghost use Rattle.ledger.specs.Walk.{comparisons};
 
-use crate::layout::Accounts;
+use crate::layout::{Accounts, account_id};
 
 // How far a pass has come down the accounts, and how many comparisons of a row's id with an account's it has left.
 #[derive(Clone, Copy)]
@@ -32,6 +32,7 @@ impl Walk {
 
     // On to the account with an id, or past the last. A turn makes one comparison, and takes it from the budget first.
     // No other function compares a row's id with an account's.
+    #[tactic(auto, unfolding(crate::specs::Ledger::ledger_bytes))]
     pub fn to(self, accounts: Accounts, id: u64) -> Walk
         requires account_within { self.account ≤ accounts.count }
         requires budget_suffices { comparisons id (drop self.account (ids_in (ledger_of accounts.bytes.now))) ≤ self.budget }
@@ -44,7 +45,7 @@ impl Walk {
         let mut budget = self.budget;
         for j in self.account..accounts.count {
             budget -= 1;
-            if accounts.id(j) == id {
+            if account_id(accounts.bytes, j) == id {
                 return Walk { account: j, budget };
             }
         }
@@ -66,10 +67,10 @@ impl Walk {
         }
     }
 
-    // Whether no account is left.
-    pub fn ended(self, accounts: Accounts) -> bool
-        ensures { result ≡ leb accounts.entry.count self.account }
+    // Whether none of so many accounts is left.
+    pub fn ended(self, accounts: usize) -> bool
+        ensures { result ≡ leb accounts self.account }
     {
-        accounts.count <= self.account
+        accounts <= self.account
     }
 }

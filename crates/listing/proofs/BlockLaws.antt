@@ -8,6 +8,9 @@ use lib.ListN.{drop}
 use lib.Seq.{drop-drop}
 use lib.Dec.{eqb}
 use borrow.Author.Tests.{eq-eqb, ne_eqb}
+use Rattle.words.specs.Refusals.{ground_number}
+use Rattle.words.specs.declared.refusal.Refusal.{Refusal}
+use Rattle.words.proofs.Refusals.{ground_some}
 use Rattle.stream.specs.Code.{StepTaken}
 use Rattle.reading.specs.Interval.{header_of, RowWords, row_words_at, row_with, row_of, rows_of}
 use Rattle.reading.proofs.RowsLeft.{rows_left, rows_start, rows_turn, rows_end}
@@ -66,27 +69,26 @@ module _ (f b : List ℕ) (interval : ℕ) where
   unfolding row_lines bytes_of_lines
   lines_end i h = ap (λ rs. bytes_of_lines (row_lines interval rs (drop (result_bytes i) b))) (rows_end f i h)
 
--- an interval block that has been settled into a ledger l with a result of zeros, and answered with a ground
-module _ (number refusal : ℕ) (l file after : List ℕ)
-    (g : refusal ≡ (settling l file result_buffer).refusal) (e : after ≡ (settling l file result_buffer).ledger) where
+-- an interval block that has been settled into a ledger l with a result of zeros
+module _ (number : ℕ) (l file after : List ℕ) (e : after ≡ (settling l file result_buffer).ledger) where
   -- the call as it is defined
   abbrev answer : SettlingAnswer
   answer = settling l file result_buffer
 
   -- the step on a refused interval block, once its line is put
-  pub interval_refused : (before out : List ℕ) → (refusal ≡ 0 → ⊥)
-      → out ≡ before ++ bytes_of_line (Line.refused number refusal)
+  pub interval_refused : (refusal : Refusal) (said : ℕ) (before out : List ℕ) → ground_number refusal ≡ answer.refusal
+      → said ≡ ground_number refusal → out ≡ before ++ bytes_of_line (Line.refused number said)
       → StepTaken (in_bytes (interval_listed number l file)) after before out true
   unfolding interval_listed interval_lines in_bytes
-  interval_refused before out some put =
-      let none : answer.refusal ≡ 0 → ⊥ = λ z. some (g ∙ z) in
-      let line : bytes_of_line (Line.refused number refusal) ≡ bytes_of_lines (interval_lines number file answer) =
-      rw (ne_eqb answer.refusal 0 none) (ap (λ g. bytes_of_line (Line.refused number g)) g ∙ one_line _)
+  interval_refused refusal said before out g is put =
+      let some : answer.refusal ≡ 0 → ⊥ = λ z. ground_some refusal (g ∙ z) in
+      let line : bytes_of_line (Line.refused number said) ≡ bytes_of_lines (interval_lines number file answer) =
+      rw (ne_eqb answer.refusal 0 some) (ap (λ g. bytes_of_line (Line.refused number g)) (is ∙ g) ∙ one_line _)
       in
       record { leaves = e; puts = put ∙ ap (λ b. before ++ b) line; goes_on = refl }
 
   -- the step on a settled interval block, once its row lines and its pool line are put
-  pub interval_settled : (result before x out : List ℕ) (interval : ℕ) → refusal ≡ 0
+  pub interval_settled : (result before x out : List ℕ) (interval : ℕ) → 0 ≡ answer.refusal
       → result ≡ answer.result → interval ≡ (header_of file).interval
       → x ≡ before ++ bytes_of_lines (file_lines file result) → out ≡ x ++ bytes_of_line (pool_line interval result)
       → StepTaken (in_bytes (interval_listed number l file)) after before out true
@@ -94,30 +96,32 @@ module _ (number refusal : ℕ) (l file after : List ℕ)
   interval_settled result before x out interval none is word rows pool =
       let both : bytes_of_lines (file_lines file result) ++ bytes_of_line (pool_line interval result)
       ≡ bytes_of_lines (interval_lines number file answer) =
-      rw (eq-eqb answer.refusal 0 (sym g ∙ none))
+      rw (eq-eqb answer.refusal 0 (sym none))
       (ap (λ b. bytes_of_lines (file_lines file result) ++ b) (one_line (pool_line interval result))
       ∙ sym (lines_append (file_lines file result) (pool_line interval result ∷ []))
       ∙ ap₂ (λ w b. bytes_of_lines (file_lines file b ++ (pool_line w b ∷ []))) word is)
       in
       record { leaves = e; puts = rw (pool, rows, append_assoc) (ap (λ b. before ++ b) both); goes_on = refl }
 
--- an opening block that has been opened in a ledger l, and answered with a ground
-module _ (refusal : ℕ) (l block after : List ℕ) (g : refusal ≡ (opening block l).refusal)
-    (e : after ≡ (opening block l).ledger) where
+-- an opening block that has been opened in a ledger l
+module _ (l block after : List ℕ) (e : after ≡ (opening block l).ledger) where
   -- the step on a refused opening, once its line is put: the listing stops
-  pub opening_refused : (before out : List ℕ) → (refusal ≡ 0 → ⊥)
-      → out ≡ before ++ bytes_of_line (Line.refused 0 refusal)
+  pub opening_refused : (refusal : Refusal) (said : ℕ) (before out : List ℕ)
+      → ground_number refusal ≡ (opening block l).refusal
+      → said ≡ ground_number refusal → out ≡ before ++ bytes_of_line (Line.refused 0 said)
       → StepTaken (in_bytes (opening_listed l block)) after before out false
   unfolding opening_listed in_bytes
-  opening_refused before out some put =
+  opening_refused refusal said before out g is put =
       let off : eqb (opening block l).refusal 0 ≡ false =
-      ne_eqb (opening block l).refusal 0 (λ none. some (g ∙ none)) in
-      let line = ap (λ g. bytes_of_line (Line.refused 0 g)) g ∙ one_line (Line.refused 0 (opening block l).refusal) in
+      ne_eqb (opening block l).refusal 0 (λ z. ground_some refusal (g ∙ z)) in
+      let line = ap (λ g. bytes_of_line (Line.refused 0 g)) (is ∙ g)
+      ∙ one_line (Line.refused 0 (opening block l).refusal) in
       record { leaves = e; puts = rw off (put ∙ ap (λ b. before ++ b) line); goes_on = sym off }
 
   -- the step on an accepted opening: nothing is printed, and the listing goes on
-  pub opening_opened : (out : List ℕ) → refusal ≡ 0 → StepTaken (in_bytes (opening_listed l block)) after out out true
+  pub opening_opened : (out : List ℕ) → 0 ≡ (opening block l).refusal
+      → StepTaken (in_bytes (opening_listed l block)) after out out true
   unfolding opening_listed in_bytes bytes_of_lines
   opening_opened out none =
-      let goes : eqb (opening block l).refusal 0 ≡ true = eq-eqb (opening block l).refusal 0 (sym g ∙ none) in
+      let goes : eqb (opening block l).refusal 0 ≡ true = eq-eqb (opening block l).refusal 0 (sym none) in
       record { leaves = e; puts = rw goes (sym (append-nil out)); goes_on = sym goes }

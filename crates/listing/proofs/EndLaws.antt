@@ -2,16 +2,15 @@
 use Prim.Native.Nat.{ℕ}
 use mathlib.Core.Path.{◌≡◌, refl, sym, ap, ◌∙◌}
 use mathlib.Core.List.{List, [], ◌++◌}
-use mathlib.Core.Bool.{Bool, true, false, cond}
+use mathlib.Core.Bool.{Bool, false, cond}
 use lib.Dec.{eqb}
 use borrow.Author.Tests.{eq-eqb, ne_eqb}
-use Rattle.words.proofs.Ints.{never}
-use Rattle.stream.specs.Stream.{Next, stops}
+use Rattle.stream.specs.Stream.{End, Next}
 use Rattle.stream.specs.Steps.{Outcome, step}
 use Rattle.stream.specs.Code.{StepTaken}
-use Rattle.listing.specs.Npalist.{opening_listed, interval_listed, block_listed, listing_steps}
+use Rattle.listing.specs.Npalist.{opening_listed, interval_listed, block_listed, end_lines, listing_steps}
 use Rattle.listing.specs.Lines.{bytes_of_lines}
-use Rattle.listing.specs.Code.{in_bytes, stop_lines}
+use Rattle.listing.specs.Code.{in_bytes}
 
 -- the opening, block 0, has the first of two
 pub at_first : {A : Type 0} (number : ℕ) (a b : A) → number ≡ 0 → cond (eqb number 0) a b ≡ a
@@ -46,10 +45,8 @@ interval_taken number l m block before out after on later same none taken =
     (ap in_bytes (at_later number _ _ later ∙ ap (λ l. interval_listed number l block) (sym same))) taken
 
 -- and where the stream stops, once its line is put
-pub end_taken : (number : ℕ) (l before out : List ℕ) (next : Next) → stops next ≡ true → before ≡ []
-    → out ≡ before ++ bytes_of_lines (stop_lines number next)
-    → StepTaken (in_bytes (step listing_steps number l next)) l [] out false
-unfolding step listing_steps in_bytes stop_lines
-end_taken number l before out (Next.stop e) stop none put =
-    record { leaves = refl; puts = rw none at put; goes_on = refl }
-end_taken number l before out (Next.block bytes rest) stop none put = never (unfold stops in stop)
+pub end_taken : (number : ℕ) (l before out : List ℕ) (e : End) → before ≡ []
+    → out ≡ before ++ bytes_of_lines (end_lines number e)
+    → StepTaken (in_bytes (step listing_steps number l (Next.stop e))) l [] out false
+unfolding step listing_steps in_bytes
+end_taken number l before out e none put = record { leaves = refl; puts = rw none at put; goes_on = refl }

@@ -1,6 +1,6 @@
 -- The laws of lines: a number before a comma or a newline, and a line of words as its first word and the rest.
 use Prim.Native.Nat.{ℕ, zero, suc, ◌+◌, ◌*◌, ◌≤◌, ◌<◌}
-use mathlib.Core.Path.{◌≡◌, refl, sym, ap, ap₂, ◌∙◌}
+use mathlib.Core.Path.{◌≡◌, refl, sym, ap, ◌∙◌}
 use mathlib.Core.List.{List, [], ◌∷◌, ◌++◌, append_assoc, append-nil}
 use native.Mathlib.Numerals.{add-one}
 use native.Mathlib.Omega.{arith}
@@ -48,18 +48,21 @@ words_from_lem (suc n) k b =
     ap (λ ws. number 8 (drop (8 * k) b) ∷ ws)
     (ap (words_in n) (drop-drop 8 (8 * k) b ∙ ap (λ p. drop p b) place) ∙ words_from_lem n (k + 1) b)
 
--- numbers that are the words of b at their places are its first words
-pub words_by : (n : ℕ) (ws b : List ℕ) → length ws ≡ n
-    → ((i : ℕ) → i < n → get_or ws i 0 ≡ number_at 8 b (8 * i)) → ws ≡ words_in n b
+-- the first n words of b are n
+pub words_long : (n : ℕ) (b : List ℕ) → length (words_in n b) ≡ n
+unfolding words_in entries
+words_long zero b = refl
+words_long (suc n) b = ap suc (words_long n (drop 8 b))
+
+-- and each of them is the word at its place
+pub word_of : (n i : ℕ) (b : List ℕ) → i < n → number_at 8 b (8 * i) ≡ get_or (words_in n b) i 0
 unfolding words_in entries word64 number_at
-words_by zero [] b long at = refl
-words_by zero (w ∷ ws) b long at = absurd (omega arith)
-words_by (suc n) [] b long at = absurd (omega arith)
-words_by (suc n) (w ∷ ws) b long at =
-    ap₂ (λ v vs. v ∷ vs) (at 0 (omega arith))
-    (words_by n ws (drop 8 b) (omega arith)
-    (λ i h. let place : 8 + 8 * i ≡ 8 * suc i = omega arith in
-    at (suc i) (omega arith) ∙ ap (λ k. number 8 (drop k b)) (sym place) ∙ ap (number 8) (sym (drop-drop (8 * i) 8 b))))
+word_of zero i b h = absurd (omega arith)
+word_of (suc n) zero b h = refl
+word_of (suc n) (suc i) b h =
+    let place : 8 + 8 * i ≡ 8 * suc i = omega arith in
+    ap (λ k. number 8 (drop k b)) (sym place) ∙ ap (number 8) (sym (drop-drop (8 * i) 8 b))
+    ∙ word_of n i (drop 8 b) (omega arith)
 
 -- the bytes of a row's line, by the words read one after the other
 pub row_bytes : (interval id : ℕ) (b : List ℕ) → bytes_of_line (row_line interval id b)

@@ -1,9 +1,9 @@
-// What npalist does with a block: opens or settles it, and puts the lines that it prints.
+// What npalist does with a block: opens or settles it, and puts the lines that it prints, in a buffer that has room for
+// them: what is left of it changes with each line, so that no type holds it.
 
 ghost use Rattle.std.specs.Prelude.{◌≡◌, true, ◌++◌, ◌+◌, ◌*◌, ◌≤◌, length};
 ghost use Rattle.arrayvec.specs.ArrayVec.{array_vec_len};
 ghost use Rattle.stream.specs.Code.{StepTaken};
-ghost use Rattle.reading.specs.Values.{Tabled};
 ghost use Rattle.settling.specs.Settling.{result_bytes};
 ghost use Rattle.listing.specs.Npalist.{file_lines, opening_listed, interval_listed};
 ghost use Rattle.listing.specs.Lines.{bytes_of_lines};
@@ -13,25 +13,21 @@ ghost use Rattle.listing.specs.Room.{refused_room, row_room, block_room};
 use crate::lines::{put_pool_line, put_refused, put_row_line};
 use arrayvec::ArrayVec;
 use ledger::opening::open;
-use reading::header::{Header, header_of};
-use reading::rows::row_at;
+use reading::file::File;
+use reading::header::header_of;
 use settling::call::settle_file;
 use settling::result::{MOST_RESULT_BYTES, row_part};
 
 // Puts the lines of the rows of a settled file.
-fn put_row_lines<const ROOM: usize>(
-    out: &mut ArrayVec<u8, ROOM>,
-    file: &[u8],
-    h: Header,
-    res: &[u8],
-)
-    requires tabled { Tabled file.now h }
-    requires rows_in_result { result_bytes h.rows ≤ length res.now }
-    requires room { array_vec_len out.old + row_room * h.rows ≤ ROOM }
-    ensures { Puts out.old (bytes_of_lines (file_lines file.now res.now)) (row_room * h.rows) out.new }
+fn put_row_lines<const ROOM: usize>(out: &mut ArrayVec<u8, ROOM>, file: &File<'_>, res: &[u8])
+    requires rows_in_result { result_bytes file.now.header.rows ≤ length res.now }
+    requires room { array_vec_len out.old + row_room * file.now.header.rows ≤ ROOM }
+    ensures { Puts out.old (bytes_of_lines (file_lines file.now.bytes.now res.now))
+        (row_room * file.now.header.rows) out.new }
 {
+    let h = file.header;
     for i in 0..h.rows {
-        let row = row_at(file, h, i);
+        let row = file.row(i);
         put_row_line(out, h.interval, row.id, row_part(res, i));
     }
 }
@@ -48,14 +44,16 @@ pub fn list_interval<const ROOM: usize>(
         ledger.new out.old.items out.new.items true }
 {
     let mut res = [0u8; MOST_RESULT_BYTES];
-    let ground = settle_file(ledger, file, &mut res);
-    if ground != 0 {
-        put_refused(out, number, ground as u64);
+    if let Err(refusal) = settle_file(ledger, file, &mut res) {
+        put_refused(out, number, u64::from(refusal.number()));
         return;
     }
-    let h = header_of(file);
-    put_row_lines(out, file, h, &res);
-    put_pool_line(out, h.interval, &res);
+    let file = File {
+        bytes: file,
+        header: header_of(file),
+    };
+    put_row_lines(out, &file, &res);
+    put_pool_line(out, file.header.interval, &res);
 }
 
 // Opens a ledger, and puts its refusal, if any; answers whether the listing goes on.
@@ -68,9 +66,8 @@ pub fn list_opening<const ROOM: usize>(
     ensures { StepTaken (in_bytes (opening_listed ledger.old block.now))
         ledger.new out.old.items out.new.items result }
 {
-    let ground = open(block, ledger);
-    if ground != 0 {
-        put_refused(out, 0, ground as u64);
+    if let Err(refusal) = open(block, ledger) {
+        put_refused(out, 0, u64::from(refusal.number()));
         return false;
     }
     true

@@ -1,10 +1,11 @@
-// The lines of a listing, each put behind what a buffer holds.
+// The lines of a listing, each put behind what a buffer holds. Each asks for its room by itself: what is left of a
+// buffer changes with each line, so that no type holds it.
 
 ghost use Rattle.std.specs.Prelude.{◌≡◌, ◌∷◌, [], ◌++◌, ◌+◌, ◌*◌, ◌≤◌, ◌<◌, length};
 ghost use Rattle.arrayvec.specs.ArrayVec.{array_vec_len};
 ghost use Rattle.words.specs.Words.{words_in};
 ghost use Rattle.settling.specs.Settling.{result_header_bytes, result_row_bytes};
-ghost use Rattle.listing.specs.Lines.{decimal, line, heading, Line, bytes_of_line};
+ghost use Rattle.listing.specs.Lines.{most_digits, decimal, line, heading, Line, bytes_of_line};
 ghost use Rattle.listing.specs.Npalist.{row_line, pool_line};
 ghost use Rattle.listing.specs.Code.{Puts, year_in};
 ghost use Rattle.listing.specs.Room.{heading_room, field_room, refused_room, cut_room, row_room, pool_room, year_room};
@@ -56,20 +57,28 @@ pub fn put_heading<const ROOM: usize>(out: &mut ArrayVec<u8, ROOM>)
     put_text(out, &HEADING);
 }
 
+// Puts a number in decimal. Most numbers of a listing are 0. A digit alone goes without the library's buffer: with it
+// for each, npalist prints five million rows a second, and not six. A digit is below 10, so that the cast cuts nothing.
+#[inline(always)]
+fn put_decimal<const ROOM: usize>(out: &mut ArrayVec<u8, ROOM>, v: u64)
+    requires { array_vec_len out.old + most_digits ≤ ROOM }
+    ensures { Puts out.old (decimal v) most_digits out.new }
+{
+    if v < BASE {
+        out.push(b'0' + v as u8);
+        return;
+    }
+    let mut digits = Buffer::new();
+    put_text(out, digits.format(v).as_bytes());
+}
+
 // Puts a number and one byte after it.
 #[inline(always)]
 pub fn put_number<const ROOM: usize>(out: &mut ArrayVec<u8, ROOM>, v: u64, after: u8)
     requires { array_vec_len out.old + field_room ≤ ROOM }
     ensures { Puts out.old (decimal v ++ after ∷ []) field_room out.new }
 {
-    // Most numbers of a listing are 0. A digit alone goes without the library's buffer: with it for each, npalist
-    // prints five million rows a second, and not six.
-    if v < BASE {
-        out.push(b'0' + v as u8);
-    } else {
-        let mut digits = Buffer::new();
-        put_text(out, digits.format(v).as_bytes());
-    }
+    put_decimal(out, v);
     out.push(after);
 }
 
@@ -88,7 +97,7 @@ pub fn put_line<const ROOM: usize>(out: &mut ArrayVec<u8, ROOM>, numbers: &[u64]
     put_number(out, *last, b'\n');
 }
 
-// Puts the line of a refused block.
+// Puts the line of a refused block. The ground's number is any: a refusal's own type would ask more of callers.
 #[tactic(auto, unfolding(crate::specs::Lines::bytes_of_line, crate::specs::Lines::text))]
 pub fn put_refused<const ROOM: usize>(out: &mut ArrayVec<u8, ROOM>, block: u64, refusal: u64)
     requires { array_vec_len out.old + refused_room ≤ ROOM }
@@ -108,26 +117,18 @@ pub fn put_cut<const ROOM: usize>(out: &mut ArrayVec<u8, ROOM>, block: u64)
     put_line(out, &[block]);
 }
 
-// The first words of a ledger, a result or a part of one.
-fn words_of<const WORDS: usize>(b: &[u8]) -> [u64; WORDS]
-    requires { 8 * WORDS ≤ length b.now }
-    ensures { result ≡ words_in WORDS b.now }
+// Puts the line of the first n words of a ledger, a result or a part of one.
+pub fn put_word_line<const ROOM: usize>(out: &mut ArrayVec<u8, ROOM>, b: &[u8], n: usize)
+    requires some_word { 0 < n }
+    requires words_in_bounds { 8 * n ≤ length b.now }
+    requires room { array_vec_len out.old + field_room * n ≤ ROOM }
+    ensures { Puts out.old (line (words_in n b.now)) (field_room * n) out.new }
 {
-    let mut words = [0; WORDS];
-    for (k, word) in words.iter_mut().enumerate() {
-        *word = u64::number(b, 8 * k);
+    let last = n - 1;
+    for k in 0..last {
+        put_number(out, u64::number(b, 8 * k), b',');
     }
-    words
-}
-
-// Puts the line of the first words of a ledger, a result or a part of one.
-pub fn put_word_line<const WORDS: usize, const ROOM: usize>(out: &mut ArrayVec<u8, ROOM>, b: &[u8])
-    requires some_word { 0 < WORDS }
-    requires words_in_bounds { 8 * WORDS ≤ length b.now }
-    requires room { array_vec_len out.old + field_room * WORDS ≤ ROOM }
-    ensures { Puts out.old (line (words_in WORDS b.now)) (field_room * WORDS) out.new }
-{
-    put_line(out, &words_of::<WORDS>(b));
+    put_number(out, u64::number(b, 8 * last), b'\n');
 }
 
 // Puts the line of a row: interval, id and the row's eight words, which begin at the front of a part of a result.
@@ -143,7 +144,7 @@ pub fn put_row_line<const ROOM: usize>(
 {
     put_number(out, interval, b',');
     put_number(out, id, b',');
-    put_word_line::<8, ROOM>(out, row);
+    put_word_line(out, row, 8);
 }
 
 // Puts the pool line of an interval: interval, ratio, charges, credits, carried.
@@ -154,7 +155,7 @@ pub fn put_pool_line<const ROOM: usize>(out: &mut ArrayVec<u8, ROOM>, interval: 
 {
     put_text(out, b"pool,");
     put_number(out, interval, b',');
-    put_word_line::<4, ROOM>(out, res);
+    put_word_line(out, res, 4);
 }
 
 // Puts the year line of a plant. Kilowatts and cents are numbers from here on.

@@ -2,9 +2,10 @@
 
 ghost use Rattle.std.specs.Prelude.{◌≡◌, true, false, ◌++◌, [], ℕ, ◌+◌, ◌≤◌, ◌<◌, length};
 ghost use Rattle.arrayvec.specs.ArrayVec.{array_vec_len};
-ghost use Rattle.stream.specs.Stream.{length_bytes, End, Next, bytes_due, next_block, stops};
+ghost use Rattle.words.specs.Refusals.{ground_number};
+ghost use Rattle.stream.specs.Stream.{length_bytes, End as StreamEnd, Next, bytes_due, next_block};
 ghost use Rattle.stream.specs.Steps.{Outcome, step};
-ghost use Rattle.stream.specs.Code.{found_as, StepTaken};
+ghost use Rattle.stream.specs.Code.{end_in, found_as, StepTaken};
 ghost use Rattle.reading.specs.Interval.{most_file_bytes};
 ghost use Rattle.listing.specs.Lines.{bytes_of_lines};
 ghost use Rattle.listing.specs.Npalist.{ledger_buffer, most_bytes, over_long_ground, end_lines, listing_steps};
@@ -18,7 +19,8 @@ use ledger::layout::MOST_LEDGER_BYTES;
 use reading::block::MOST_BLOCK_BYTES;
 use reading::header::{MOST_FILE_BYTES, MOST_ROWS};
 use std::marker::Model;
-use stream::{Found, next_block};
+use stream::{End, next_block};
+use words::refusal::Refusal;
 
 // The longest block, and the lines of the most rows.
 pub const BLOCK_BYTES: usize = MOST_FILE_BYTES;
@@ -45,14 +47,13 @@ pub trait Steps<const ROOM: usize> {
         ensures held_on { result ≡ true → holds (number + 1) self.new };
 
     // Puts what is printed where the stream stops.
-    fn stop(&self, number: u64, found: Found, out: &mut ArrayVec<u8, ROOM>)
-        requires stopped { stops (found_as found []) ≡ true }
+    fn stop(&self, number: u64, end: End, out: &mut ArrayVec<u8, ROOM>)
         requires held { holds number self.now }
         requires empty { out.old.items ≡ [] }
-        ensures { StepTaken (outcome number self.now (found_as found [])) self.now [] out.new.items false };
+        ensures { StepTaken (outcome number self.now (Next.stop (end_in end))) self.now [] out.new.items false };
 }
 
-// The most bytes of a block.
+// The most bytes of a block. Its number alone says whether it is the opening.
 pub fn most_bytes(number: u64) -> usize
     ensures value { result ≡ most_bytes number }
     ensures upper_bound { result ≤ most_file_bytes }
@@ -63,20 +64,21 @@ pub fn most_bytes(number: u64) -> usize
     MOST_FILE_BYTES
 }
 
-// The ground of a length over that limit.
-fn over_long_ground(number: u64) -> u64
-    ensures { result ≡ over_long_ground number }
+// The ground of a length over that limit. The block's number alone says whether it is the opening.
+fn over_long_ground(number: u64) -> Refusal
+    ensures { ground_number result ≡ over_long_ground number }
 {
     if number == 0 {
-        return 1;
+        return Refusal::NotABlock;
     }
-    7
+    Refusal::NotAFile
 }
 
-// Puts a cut if the stream ends before the opening, and nothing if it ends later.
+// Puts a cut if the stream ends before the opening, and nothing if it ends later. The number of the block that is next
+// alone says which.
 fn put_end<const ROOM: usize>(number: u64, out: &mut ArrayVec<u8, ROOM>)
     requires { array_vec_len out.old + cut_room ≤ ROOM }
-    ensures { Puts out.old (bytes_of_lines (end_lines number End.ended)) cut_room out.new }
+    ensures { Puts out.old (bytes_of_lines (end_lines number StreamEnd.ended)) cut_room out.new }
 {
     if number != 0 {
         return;
@@ -85,15 +87,19 @@ fn put_end<const ROOM: usize>(number: u64, out: &mut ArrayVec<u8, ROOM>)
 }
 
 // Puts the line where a stream stops, if any, and nothing where a block is next.
-pub fn put_stop<const ROOM: usize>(number: u64, found: Found, out: &mut ArrayVec<u8, ROOM>)
+pub fn put_stop<const ROOM: usize>(number: u64, next: Result<(), End>, out: &mut ArrayVec<u8, ROOM>)
     requires { array_vec_len out.old + refused_room ≤ ROOM }
-    ensures { Puts out.old (bytes_of_lines (stop_lines number (found_as found []))) refused_room out.new }
+    ensures { Puts out.old (bytes_of_lines (stop_lines number (found_as next []))) refused_room out.new }
 {
-    match found {
-        Found::Ended => put_end(number, out),
-        Found::Cut => put_cut(out, number),
-        Found::OverLong => put_refused(out, number, over_long_ground(number)),
-        Found::Block => {}
+    match next {
+        Ok(()) => {}
+        Err(end) => match end {
+            End::Ended => put_end(number, out),
+            End::Cut => put_cut(out, number),
+            End::OverLong => {
+                put_refused(out, number, u64::from(over_long_ground(number).number()))
+            }
+        },
     }
 }
 
@@ -114,12 +120,13 @@ pub fn take_step<const ROOM: usize, S: Steps<ROOM>>(
         steps.new [] out.new.items result }
     ensures held_on { result ≡ true → S.holds (number + 1) steps.new }
 {
-    let found = next_block(most_bytes(number), head, block);
-    if found.stops() {
-        steps.stop(number, found, out);
-        return false;
+    match next_block(most_bytes(number), head, block) {
+        Ok(()) => steps.block(number, block, out),
+        Err(end) => {
+            steps.stop(number, end, out);
+            false
+        }
     }
-    steps.block(number, block, out)
 }
 
 // A listing, whose state is the ledger.
@@ -162,7 +169,7 @@ impl Steps<LINES_BYTES> for Listing {
         list_opening(&mut self.ledger, block, out)
     }
 
-    fn stop(&self, number: u64, found: Found, out: &mut ArrayVec<u8, LINES_BYTES>) {
-        put_stop(number, found, out);
+    fn stop(&self, number: u64, end: End, out: &mut ArrayVec<u8, LINES_BYTES>) {
+        put_stop(number, Err(end), out);
     }
 }

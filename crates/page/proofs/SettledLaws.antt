@@ -9,6 +9,9 @@ use lib.Seq.{drop-drop}
 use borrow.Author.Tests.{eq-eqb, ne_eqb}
 use Rattle.words.specs.Lists.{sum}
 use Rattle.words.specs.Words.{word64}
+use Rattle.words.specs.Refusals.{ground_number}
+use Rattle.words.specs.declared.refusal.Refusal.{Refusal}
+use Rattle.words.proofs.Refusals.{ground_some}
 use Rattle.stream.specs.Steps.{Outcome}
 use Rattle.stream.specs.Code.{StepTaken}
 use Rattle.reading.specs.Interval.{most_kilowatts, header_of, rows_of}
@@ -51,10 +54,8 @@ balance_in l file r result id i none is at low =
     let place = ap (λ k. drop (result_row_bytes * k) (drop result_header_bytes result)) (sym at) ∙ row_place i result in
     (omega (arith, bounds.0, short, ap (λ b. word64 b 4) place), omega (arith, bounds.1, extra, ap (λ b. word64 b 5) place))
 
--- an interval block that has been settled into a ledger l, with a result of zeros, and answered with a ground,
--- on the page of p
-module _ (number refusal : ℕ) (l file after result : List ℕ)
-    (g : refusal ≡ (settling l file result_buffer).refusal)
+-- an interval block that has been settled into a ledger l, with a result of zeros, on the page of p
+module _ (number : ℕ) (l file after result : List ℕ)
     (e : after ≡ (settling l file result_buffer).ledger) (is : result ≡ (settling l file result_buffer).result)
     (p : PageValue) where
   -- the call as it is defined
@@ -82,24 +83,24 @@ module _ (number refusal : ℕ) (l file after result : List ℕ)
       }
 
   -- a refused interval: its line stands on every page, and adds nothing
-  pub refused_paged : (before out : List ℕ) → (refusal ≡ 0 → ⊥)
-      → out ≡ before ++ bytes_of_line (Line.refused number refusal)
+  pub refused_paged : (refusal : Refusal) (said : ℕ) (before out : List ℕ) → ground_number refusal ≡ answer.refusal
+      → said ≡ ground_number refusal → out ≡ before ++ bytes_of_line (Line.refused number said)
       → StepTaken (in_bytes (page_outcome p.id (state_in l p) o)) (state_in after p) before out true
   unfolding interval_listed interval_lines chosen on_page summed sum figure_on
-  refused_paged before out some put =
-      let off = ne_eqb answer.refusal 0 (λ none. some (g ∙ none)) in
-      let own : chosen p.id o.printed ≡ Line.refused number refusal ∷ [] =
-      rw off (ap (λ g. Line.refused number g ∷ []) (sym g)) in
-      paged (Line.refused number refusal ∷ []) p own (omega arith) (omega arith) before out
+  refused_paged refusal said before out g same put =
+      let off = ne_eqb answer.refusal 0 (λ none. ground_some refusal (g ∙ none)) in
+      let own : chosen p.id o.printed ≡ Line.refused number said ∷ [] =
+      rw off (ap (λ g. Line.refused number g ∷ []) (sym (same ∙ g))) in
+      paged (Line.refused number said ∷ []) p own (omega arith) (omega arith) before out
       (put ∙ ap (λ b. before ++ b) (one_line _))
 
   -- an accepted one
-  module _ (none : refusal ≡ 0) where
+  module _ (none : 0 ≡ answer.refusal) where
     -- of its lines those of the plant's rows stand on the page
     rows_chosen : chosen p.id o.printed ≡ chosen p.id (file_lines file result)
     unfolding interval_listed interval_lines chosen on_page pool_line
     rows_chosen =
-        rw (eq-eqb answer.refusal 0 (sym g ∙ none))
+        rw (eq-eqb answer.refusal 0 (sym none))
         (chosen_append p.id (file_lines file answer.result) (pool_line (header_of file).interval answer.result ∷ [])
         ∙ append-nil (chosen p.id (file_lines file answer.result))
         ∙ ap (λ b. chosen p.id (file_lines file b)) (sym is))
@@ -120,7 +121,7 @@ module _ (number refusal : ℕ) (l file after result : List ℕ)
     unfolding summed sum figure_on row_line
     row_paged i interval from out q at low word row =
         let part = drop (result_bytes i) result in
-        let up = (accepted l file result_buffer (sym g ∙ none)).ids_rise in
+        let up = (accepted l file result_buffer (sym none)).ids_rise in
         let place = ap (λ k. drop (result_row_bytes * k) (drop result_header_bytes result)) (sym at) ∙ row_place i result in
         let own : chosen p.id o.printed ≡ row_line interval p.id part ∷ [] =
         rows_chosen ∙ own_line (header_of file).interval p.id (rows_of file) (drop result_header_bytes result) up

@@ -10,8 +10,7 @@ use lib.Dec.{eqb}
 use borrow.Author.Tests.{eqb-true, eq-eqb, ne_eqb, lt-ltb, le-ltb}
 use Rattle.words.specs.Lists.{sum, any}
 use Rattle.words.specs.Words.{Bytes, number, number_at}
-use Rattle.words.proofs.Ints.{never}
-use Rattle.stream.specs.Stream.{End, Next, stops}
+use Rattle.stream.specs.Stream.{End, Next}
 use Rattle.stream.specs.Steps.{Outcome, step}
 use Rattle.stream.specs.Code.{StepTaken}
 use Rattle.assessment.specs.Assessment.{account_of, limit}
@@ -25,7 +24,7 @@ use Rattle.year.specs.Year.{new_year, after_calls, account_by_rows}
 use Rattle.year.proofs.Claims.{kept}
 use Rattle.listing.specs.Lines.{RowLine, Line, bytes_of_line, bytes_of_lines}
 use Rattle.listing.specs.Npalist.{opening_listed, interval_listed, end_lines}
-use Rattle.listing.specs.Code.{in_bytes, stop_lines, year_in}
+use Rattle.listing.specs.Code.{in_bytes, year_in}
 use Rattle.listing.proofs.LineLaws.{one_line, lines_append}
 use Rattle.page.specs.Page.{id_word_bytes, outside_roster, on_page, chosen, figure_on, summed, year_of, on_roster}
 use Rattle.page.specs.Steps.{
@@ -270,24 +269,23 @@ unfolding page_block
 block_later id number s b later = rw (ne_eqb number 0 later)
 
 -- the step of a plant's page where the stream stops: at the opening the line of its end is put
-pub stopped_first : (number : ℕ) (p : Paged) (before out : List ℕ) (next : Next) → stops next ≡ true → number ≡ 0
-    → before ≡ [] → out ≡ before ++ bytes_of_lines (stop_lines number next)
-    → StepTaken (plant_step number p next) p [] out false
-unfolding plant_step step page_steps in_bytes stop_lines
-stopped_first number p before out (Next.stop e) stop first none put = record {
+pub stopped_first : (number : ℕ) (p : Paged) (before out : List ℕ) (e : End) → number ≡ 0
+    → before ≡ [] → out ≡ before ++ bytes_of_lines (end_lines number e)
+    → StepTaken (plant_step number p (Next.stop e)) p [] out false
+unfolding plant_step step page_steps in_bytes
+stopped_first number p before out e first none put = record {
   leaves = refl;
   puts = put ∙ ap₂ (λ b ls. b ++ bytes_of_lines ls) none (sym (end_first p.id number p.state e first));
   goes_on = refl;
 }
-stopped_first number p before out (Next.block bytes rest) stop first none put = never (unfold stops in stop)
 
 -- and later the year line after it
-pub stopped_later : (number : ℕ) (p : Paged) (before x out : List ℕ) (next : Next) → stops next ≡ true
-    → (number ≡ 0 → ⊥) → before ≡ [] → x ≡ before ++ bytes_of_lines (stop_lines number next)
+pub stopped_later : (number : ℕ) (p : Paged) (before x out : List ℕ) (e : End)
+    → (number ≡ 0 → ⊥) → before ≡ [] → x ≡ before ++ bytes_of_lines (end_lines number e)
     → out ≡ x ++ bytes_of_line (Line.year (year_of p.id p.state.shortfall p.state.bonus p.state.ledger))
-    → StepTaken (plant_step number p next) p [] out false
-unfolding plant_step step page_steps in_bytes stop_lines year_lines
-stopped_later number p before x out (Next.stop e) stop later none put year =
+    → StepTaken (plant_step number p (Next.stop e)) p [] out false
+unfolding plant_step step page_steps in_bytes year_lines
+stopped_later number p before x out e later none put year =
     let both = lines_append (end_lines number e) (year_lines p.id p.state)
     ∙ ap (λ b. bytes_of_lines (end_lines number e) ++ b) (sym (one_line _)) in
     record {
@@ -295,7 +293,6 @@ stopped_later number p before x out (Next.stop e) stop later none put year =
       puts = rw (year, put, none) (sym both ∙ ap bytes_of_lines (end_later p.id number p.state e later));
       goes_on = refl;
     }
-stopped_later number p before x out (Next.block bytes rest) stop later none put year = never (unfold stops in stop)
 
 -- the step on the opening, once a page without lines is opened
 pub opened_taken : (number : ℕ) (p : Paged) (m : PageValue) (l after block before out : List ℕ) (on : Bool)

@@ -9,7 +9,7 @@ ghost use Rattle.ledger.specs.Values.{before};
 
 use assessment::account::Account;
 use ledger::ground_six::Ledger;
-use ledger::layout::Accounts;
+use ledger::layout::{Accounts, account_at};
 use ledger::walk::Walk;
 
 // Down the accounts of a ledger to an id, or past the last.
@@ -24,7 +24,7 @@ pub fn has_account(ledger: Ledger, id: u64) -> bool
     ensures { result ≡ any (λ i. eqb i id) (ids_in (ledger_of ledger.entry.bytes.now)) }
 {
     let accounts = ledger.accounts();
-    !walk_to(accounts, id).ended(accounts)
+    !walk_to(accounts, id).ended(accounts.count)
 }
 
 // The account of an id, or an empty one where there is none.
@@ -33,8 +33,8 @@ pub fn plant_account(ledger: Ledger, id: u64) -> Account
 {
     let accounts = ledger.accounts();
     let walk = walk_to(accounts, id);
-    if walk.ended(accounts) {
+    if walk.ended(accounts.count) {
         return Account::empty(id);
     }
-    accounts.at(walk.account)
+    account_at(accounts.bytes, walk.account)
 }

@@ -3,7 +3,6 @@
 ghost use Rattle.std.specs.Prelude.{◌≡◌, map, ◌+◌, ◌≤◌, ◌<◌, ◌^◌, MatchOption};
 ghost use Rattle.arrayvec.specs.ArrayVec.{array_vec_len};
 ghost use Rattle.reading.specs.Interval.{rows_of};
-ghost use Rattle.reading.specs.Values.{Tabled};
 ghost use Rattle.ledger.specs.Values.{before};
 ghost use Rattle.listing.specs.Lines.{Line, bytes_of_line};
 ghost use Rattle.listing.specs.Code.{Puts, year_in};
@@ -16,8 +15,7 @@ use assessment::account::limit;
 use assessment::units::{Kilowatts, Quantity};
 use ledger::ground_six::Ledger;
 use listing::lines::{YearFigures, put_year_line};
-use reading::header::Header;
-use reading::rows::row_at;
+use reading::file::File;
 use settling::result::Balance;
 
 // A plant, and the shortfall and the bonus that its lines add up to.
@@ -59,13 +57,12 @@ impl Page {
 }
 
 // The place of the row with an id among a file's rows, if one has it.
-pub fn row_of(file: &[u8], h: Header, id: u64) -> Option<usize>
-    requires { Tabled file.now h }
-    ensures { let place = before id (map (λ w. w.id) (rows_of file.now)) in
-        MatchOption result (place ≡ h.rows) (λ i. (i ≡ place) × (i < h.rows)) }
+pub fn row_of(file: &File<'_>, id: u64) -> Option<usize>
+    ensures { let place = before id (map (λ w. w.id) (rows_of file.now.bytes.now)) in
+        MatchOption result (place ≡ file.now.header.rows) (λ i. (i ≡ place) × (i < file.now.header.rows)) }
 {
-    for i in 0..h.rows {
-        let row = row_at(file, h, i);
+    for i in 0..file.header.rows {
+        let row = file.row(i);
         if row.id == id {
             return Some(i);
         }
@@ -93,7 +90,7 @@ fn year_figures(page: Page, ledger: Ledger) -> YearFigures
     }
 }
 
-// Puts the year line.
+// Puts the year line. What is left of a buffer changes with each line, so that no type holds the room.
 pub fn put_year<const ROOM: usize>(out: &mut ArrayVec<u8, ROOM>, page: Page, ledger: Ledger)
     requires { array_vec_len out.old + year_room ≤ ROOM }
     ensures { let year = year_of page.id page.shortfall.0 page.bonus.0 ledger.entry.bytes.now in

@@ -1,4 +1,5 @@
 // The steps of a plant's page: what was read of the id word, the opening or an interval becomes lines to print.
+// Each asks for its room by itself: what is left of a buffer changes with each line, so that no type holds it.
 
 ghost use Rattle.std.specs.Prelude.{◌≡◌, true, false, [], ◌++◌, ◌+◌, ◌≤◌, ◌<◌, ◌^◌, length, drop, MatchOption};
 ghost use Rattle.arrayvec.specs.ArrayVec.{array_vec_len};
@@ -21,16 +22,16 @@ use ledger::layout::MOST_LEDGER_BYTES;
 use listing::blocks::list_opening;
 use listing::lines::{ROW_ROOM, put_cut, put_refused, put_row_line};
 use listing::steps::{Steps, put_stop};
+use reading::file::File;
 use reading::header::header_of;
 use settling::call::settle_file;
 use settling::result::{MOST_RESULT_BYTES, balance_at, row_part};
 use std::marker::Model;
-use stream::Found;
+use stream::End;
 use words::Word;
+use words::refusal::Refusal;
 
 pub const ID_WORD_BYTES: usize = 4;
-
-const OUTSIDE_ROSTER: u64 = 17;
 
 // What a step prints at most: a row's line, or a refusal and the year.
 pub const STEP_ROOM: usize = ROW_ROOM;
@@ -51,7 +52,7 @@ pub fn page_id<const ROOM: usize>(word: &[u8], out: &mut ArrayVec<u8, ROOM>) -> 
 }
 
 // Opens a ledger, and puts its refusal, or that of an id outside the roster; answers whether the page goes on.
-fn open_page<const ROOM: usize>(
+pub fn open_page<const ROOM: usize>(
     id: u64,
     ledger: &mut [u8],
     block: &[u8],
@@ -69,7 +70,7 @@ fn open_page<const ROOM: usize>(
     if has_account(Ledger::held(ledger), id) {
         return true;
     }
-    put_refused(out, 0, OUTSIDE_ROSTER);
+    put_refused(out, 0, u64::from(Refusal::OutsideRoster.number()));
     false
 }
 
@@ -93,7 +94,7 @@ fn page_row<const ROOM: usize>(
 }
 
 // Settles an interval file with a result of zeros, and puts the plant's line, if any, or the refusal.
-fn page_interval<const ROOM: usize>(
+pub fn page_interval<const ROOM: usize>(
     number: u64,
     page: &mut Page,
     ledger: &mut [u8],
@@ -113,14 +114,16 @@ fn page_interval<const ROOM: usize>(
     ensures year_ledger_on { YearLedger ledger.new }
 {
     let mut res = [0u8; MOST_RESULT_BYTES];
-    let ground = settle_file(ledger, file, &mut res);
-    if ground != 0 {
-        put_refused(out, number, ground as u64);
+    if let Err(refusal) = settle_file(ledger, file, &mut res) {
+        put_refused(out, number, u64::from(refusal.number()));
         return;
     }
-    let h = header_of(file);
-    if let Some(i) = row_of(file, h, page.id) {
-        page_row(page, h.interval, i, &res, out);
+    let file = File {
+        bytes: file,
+        header: header_of(file),
+    };
+    if let Some(i) = row_of(&file, page.id) {
+        page_row(page, file.header.interval, i, &res, out);
     }
 }
 
@@ -167,9 +170,10 @@ impl Steps<STEP_ROOM> for Paging {
         true
     }
 
-    // Puts the line where the stream stops, if any, and after the opening the year line after it.
-    fn stop(&self, number: u64, found: Found, out: &mut ArrayVec<u8, STEP_ROOM>) {
-        put_stop(number, found, out);
+    // Puts the line where the stream stops, if any, and after the opening the year line after it. The number of the
+    // block that is next alone says whether the opening was.
+    fn stop(&self, number: u64, end: End, out: &mut ArrayVec<u8, STEP_ROOM>) {
+        put_stop(number, Err(end), out);
         if number != 0 {
             put_year(out, self.page, Ledger::held(&self.ledger));
         }

@@ -83,6 +83,21 @@ module _ (f : List ℕ) where
       unfolding answered row_grounds
       all_pass e = rw (in_range, named, e)
 
+-- where the answer is none of 0, 13 and 18, it is 14
+pub last_ground : (f : List ℕ) {ground : ℕ} → ground ≡ answered (row_grounds f)
+    → (ground ≡ 0 → ⊥) → (ground ≡ 13 → ⊥) → (ground ≡ 18 → ⊥) → ◌≡◌ {A = ℕ} 14 (answered (row_grounds f))
+unfolding answered row_grounds
+last_ground f =
+    by (some_row f row_outside) (some_row f (schedules_outside f)) (some_row f (points_outside f))
+  where
+    by : (rows schedules points : Bool) {ground : ℕ} → ground ≡ cond rows 13 (cond schedules 18 (cond points 14 0))
+        → (ground ≡ 0 → ⊥) → (ground ≡ 13 → ⊥) → (ground ≡ 18 → ⊥)
+        → ◌≡◌ {A = ℕ} 14 (cond rows 13 (cond schedules 18 (cond points 14 0)))
+    by true schedules points is some not_13 not_18 = absurd (not_13 is)
+    by false true points is some not_13 not_18 = absurd (not_18 is)
+    by false false true is some not_13 not_18 = refl
+    by false false false is some not_13 not_18 = absurd (some is)
+
 -- the rows of a file whose header is read
 module _ {f : List ℕ} {h : HeaderValue} (r : HeaderRead f h) where
   -- a ground depends on the rows from i on: on what the first of them tells, which has the words w,

@@ -4,7 +4,7 @@ use mathlib.Core.Path.{◌≡◌, refl, sym, ap, ◌∙◌}
 use mathlib.Core.List.{List, [], ◌∷◌, map, Memᴰ}
 use mathlib.Core.Bool.{Bool, false, ◌&&◌}
 use native.Mathlib.Omega.{arith}
-use lib.ListN.{length, drop, get_or, length-map, drop_of_length-le}
+use lib.ListN.{length, drop, length-map, drop_of_length-le}
 use lib.Seq.{drop-drop}
 use lib.Dec.{ltb, leb}
 use borrow.Author.Tests.{lt-ltb, leb-false}
@@ -156,25 +156,3 @@ module _ (f : List ℕ) (w : RowWords) where
   -- from their number on, none is left
   pub no_schedule_lem : (k : ℕ) → length (schedules_named f w) ≤ k → drop k (row_of f w).schedules ≡ []
   no_schedule_lem k beyond = drop_of_length-le (row_of f w).schedules {i = k} (omega (arith, length_schedules))
-
--- the schedule that a sound row was dispatched on
-module _ {f : List ℕ} {w : RowWords} (s : Sound f w) where
-  -- is among its schedules where it has points
-  pub dispatched_some : 0 < (schedule_at f w w.dispatched).count → w.dispatched < length (schedules_named f w)
-  unfolding schedule_at
-  dispatched_some = by (schedules_named f w) refl
-    where
-      by : (named : List ScheduleWords) → schedules_named f w ≡ named → 0 < (get_or named w.dispatched no_schedule).count
-          → w.dispatched < length (schedules_named f w)
-      by [] e some = absurd (omega arith)
-      by (x ∷ xs) e some = dispatched_among f w s.schedules (omega (arith, ap length e))
-
-  -- where it has none, the row has no schedules
-  pub dispatched_none : (schedule_at f w w.dispatched).count ≡ 0 → schedules_named f w ≡ []
-  dispatched_none none = by (schedules_named f w) refl
-    where
-      by : (named : List ScheduleWords) → schedules_named f w ≡ named → schedules_named f w ≡ []
-      by [] e = e
-      by (x ∷ xs) e =
-          let among = dispatched_among f w s.schedules (omega (arith, ap length e)) in
-          absurd (omega (arith, count_some (schedule_sound s w.dispatched among)))

@@ -1,27 +1,24 @@
-// The opening block, of both formats: its values, and grounds 1, 2, 23, 3 and 4.
+// The opening block, of both formats: its values, and grounds 1, 2, 23 and 3.
 
-ghost use Rattle.std.specs.Prelude.{◌≡◌, ◌≤◌, ◌<◌, length, get_or};
+ghost use Rattle.std.specs.Prelude.{◌≡◌, ◌≤◌, length};
 ghost use Rattle.words.specs.Words.{word32};
 ghost use Rattle.reading.specs.Block.{
   block_header_bytes,
   block_sizes,
   year_named,
   block_words,
-  block_of,
   not_a_block,
   terms_outside,
   year_outside,
   year_unknown,
   ids_misplaced,
-  ids_out_of_order,
 };
-ghost use Rattle.reading.specs.Values.{sizes_in, terms_in, block_in, BlockRead, Listed};
+ghost use Rattle.reading.specs.Values.{sizes_in, terms_in, block_in, BlockRead};
 
-use crate::listed::ListedBlock;
 use crate::spans::{Sizes, Span, format_word};
-use words::Word;
+use words::{Word, size};
 
-// Of the two formats: the one that names no year, and the one that does.
+// Of the two formats: the one that names no year, and the one that does. The word of a format is only compared.
 const YEARLESS: u64 = 1;
 
 const YEARLESS_HEADER_BYTES: usize = 20;
@@ -36,7 +33,7 @@ const COMMON_YEAR: u64 = 365;
 
 const LEAP_YEAR: u64 = 366;
 
-pub const MOST_IDS: u64 = 512;
+pub const MOST_IDS: usize = 512;
 
 pub(crate) const ID_BYTES: usize = 4;
 
@@ -103,8 +100,8 @@ pub fn block_of(block: &[u8]) -> Block
     Block {
         format: u32::number(block, 0),
         terms,
-        ids: u32::number(block, 12) as usize,
-        ids_at: u32::number(block, 16) as usize,
+        ids: size(block, 12),
+        ids_at: size(block, 16),
     }
 }
 
@@ -165,7 +162,7 @@ pub fn ids_misplaced(block: &[u8], b: Block) -> bool
     requires { BlockRead block.now b }
     ensures { result ≡ ids_misplaced block.now }
 {
-    if b.ids < 1 || MOST_IDS < b.ids as u64 {
+    if b.ids < 1 || MOST_IDS < b.ids {
         return true;
     }
     let ids = Span {
@@ -173,29 +170,4 @@ pub fn ids_misplaced(block: &[u8], b: Block) -> bool
         bytes: ID_BYTES * b.ids,
     };
     ids.leaves(block_header_bytes(b.format), block.len())
-}
-
-// The id at an index.
-pub fn id_at(block: &[u8], b: Block, i: usize) -> u64
-    requires listed { Listed block.now b }
-    requires i_lt_ids { i < b.ids }
-    ensures { result ≡ get_or (block_of block.now).ids i 0 }
-{
-    let listed = ListedBlock {
-        bytes: block,
-        block: b,
-    };
-    listed.id(i)
-}
-
-// Ground 4, of ids that lie within the block.
-pub fn ids_out_of_order(block: &[u8], b: Block) -> bool
-    requires { Listed block.now b }
-    ensures { result ≡ ids_out_of_order (block_of block.now).ids }
-{
-    let listed = ListedBlock {
-        bytes: block,
-        block: b,
-    };
-    listed.ids_out_of_order()
 }

@@ -78,7 +78,7 @@ impl<'a> File<'a> {
         schedule_of(&self.bytes[at..])
     }
 
-    // Schedule k of a row. The one of format 1 is a market schedule.
+    // Schedule k of a row. The one of format 1 is a market schedule. `as` is how an enum's number is read.
     pub fn schedule(&self, row: Row, k: usize) -> Schedule
         requires within_table { schedules_beyond (header_in self.now.header) (row_in row) ≡ false }
         requires k_lt_count { k < length (schedules_named self.now.bytes.now (row_in row)) }

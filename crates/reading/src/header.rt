@@ -20,9 +20,9 @@ ghost use Rattle.reading.specs.Kinds.{format_of};
 ghost use Rattle.reading.specs.Values.{sizes_in, table_in, layout_in, header_in, HeaderRead};
 
 use crate::spans::{Sizes, Span, format_word};
-use words::{Word, signed};
+use words::{Word, signed, size};
 
-// The word of the format whose rows name points.
+// The word of the format whose rows name points: it is only compared, to make a Format.
 const CURVES: u64 = 1;
 
 pub const MOST_FILE_BYTES: usize = 61440;
@@ -109,14 +109,15 @@ pub struct Header {
     pub schedules_at: usize,
 }
 
-// A word that only format 2 has, at a byte offset of a header or a row; in format 1 what stands for it.
+// A word that only format 2 has, at a byte offset, since a header and a row each have such words; in format 1 what
+// stands for it.
 pub fn schedules_word(b: &[u8], format: u64, at: usize, without: usize) -> usize
     requires { (format ≡ curves_format → ⊥) → at + 4 ≤ length b.now }
     ensures { result ≡ by_format format without (number_at 4 b.now at) }
 {
     match Format::from(format) {
         Format::Curves => without,
-        Format::Schedules => u32::number(b, at) as usize,
+        Format::Schedules => size(b, at),
     }
 }
 
@@ -134,10 +135,10 @@ pub fn header_of(file: &[u8]) -> Header
         days: u32::number(file, 12),
         region_wide: u32::number(file, 16),
         imports: signed(u32::number(file, 20)),
-        rows: u32::number(file, 24) as usize,
-        rows_at: u32::number(file, 28) as usize,
-        points: u32::number(file, 32) as usize,
-        points_at: u32::number(file, 36) as usize,
+        rows: size(file, 24),
+        rows_at: size(file, 28),
+        points: size(file, 32),
+        points_at: size(file, 36),
         schedules: schedules_word(file, format, 40, 0),
         schedules_at: schedules_word(file, format, 44, 40),
     }
@@ -166,7 +167,8 @@ pub fn not_a_file(file: &[u8]) -> bool
     }
 }
 
-// Whether a signed number lies outside -most to most.
+// Whether a signed number lies outside -most to most. By its unsigned_abs it takes settling two instructions more each
+// time, seven times a row. The cast of a limit cuts nothing.
 #[tactic(auto, unfolding(words::specs::Grounds::beyond))]
 pub fn beyond(z: i64, most: u64) -> bool
     requires { most < 2 ^ 63 }

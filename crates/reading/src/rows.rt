@@ -8,24 +8,17 @@ ghost use Rattle.reading.specs.Interval.{
   point_bytes,
   header_of,
   row_words,
-  row_words_at,
   schedule_words,
   schedules_named,
-  schedule_at,
-  schedules_beyond,
-  schedules_outside,
-  curve_part,
-  curve_misplaced,
   point_at,
   row_outside,
   kind_outside,
 };
 ghost use Rattle.reading.specs.Kinds.{kind_number, KindRead, schedule_kind_number, ScheduleKindRead};
-ghost use Rattle.reading.specs.Values.{header_in, row_in, schedule_in, point_in, Tabled};
+ghost use Rattle.reading.specs.Values.{row_in, schedule_in, point_in};
 
-use crate::file::File;
 use crate::header::{Format, Header, POINT_BYTES, schedules_word};
-use words::{Word, signed};
+use words::{Word, signed, size};
 
 // The kinds of rows: generation or storage, demand resource, energy efficiency, price responsive demand (PRD),
 // energy-only, importer.
@@ -84,25 +77,6 @@ impl TryFrom<u64> for ScheduleKind {
     }
 }
 
-// The kind words of rows and of schedules.
-pub const GENERATION: u64 = 0;
-
-pub const DEMAND: u64 = 1;
-
-pub const EFFICIENCY: u64 = 2;
-
-pub const RESPONSIVE: u64 = 3;
-
-pub const ENERGY_ONLY: u64 = 4;
-
-pub const IMPORTER: u64 = 5;
-
-pub const MARKET: u64 = 1;
-
-pub const PRICE_BASED: u64 = 2;
-
-pub const COST: u64 = 3;
-
 // A row's words. The last three name its points in format 1,
 // in format 2 its schedules and the one that it was dispatched on.
 #[derive(Clone, Copy)]
@@ -140,7 +114,7 @@ pub struct Point {
 }
 
 impl Row {
-    // The kind, of a row that ground 13 does not refuse.
+    // The kind, of a row that ground 13 does not refuse: it rests on that alone; a SoundRow asks for 18 and 14 too.
     pub fn kind(self) -> Kind
         requires { row_outside (row_in self) ≡ false }
         ensures { kind_number result ≡ self.kind }
@@ -179,8 +153,8 @@ pub(crate) fn row_of(row: &[u8], format: u64) -> Row
         minimum: u32::number(row, 36),
         online: u32::number(row, 40),
         lmp: signed(u32::number(row, 44)),
-        first: u32::number(row, 48) as usize,
-        count: u32::number(row, 52) as usize,
+        first: size(row, 48),
+        count: size(row, 52),
         dispatched: schedules_word(row, format, 56, 0),
     }
 }
@@ -194,8 +168,8 @@ pub(crate) fn schedule_of(schedule: &[u8]) -> Schedule
 {
     Schedule {
         kind: u32::number(schedule, 0),
-        first: u32::number(schedule, 4) as usize,
-        points: u32::number(schedule, 8) as usize,
+        first: size(schedule, 4),
+        points: size(schedule, 8),
     }
 }
 
@@ -222,65 +196,4 @@ pub fn point_at(curve: &[u8], j: usize) -> Point
         price: signed(u32::number(curve, at)),
         kw: u32::number(curve, at + 4),
     }
-}
-
-// Row i of a file.
-pub fn row_at(file: &[u8], h: Header, i: usize) -> Row
-    requires tabled { Tabled file.now h }
-    requires i_lt_rows { i < h.rows }
-    ensures { row_in result ≡ row_words_at file.now i }
-{
-    let file = File {
-        bytes: file,
-        header: h,
-    };
-    file.row(i)
-}
-
-// Schedule k of a row.
-pub fn schedule_at(file: &[u8], h: Header, row: Row, k: usize) -> Schedule
-    requires tabled { Tabled file.now h }
-    requires row_value { schedules_beyond (header_in h) (row_in row) ≡ false }
-    requires k_in_bounds { k < length (schedules_named file.now (row_in row)) }
-    ensures { schedule_in result ≡ schedule_at file.now (row_in row) k }
-{
-    let file = File {
-        bytes: file,
-        header: h,
-    };
-    file.schedule(row, k)
-}
-
-// The schedule that a row was dispatched on; one without points if it has none.
-pub fn dispatched_on(file: &[u8], h: Header, row: Row) -> Schedule
-    requires tabled { Tabled file.now h }
-    requires row_value { schedules_outside file.now (row_in row) ≡ false }
-    ensures { schedule_in result ≡ schedule_at file.now (row_in row) row.dispatched }
-{
-    let file = File {
-        bytes: file,
-        header: h,
-    };
-    match file.dispatched_on(row) {
-        Some(schedule) => schedule,
-        None => Schedule {
-            kind: 0,
-            first: 0,
-            points: 0,
-        },
-    }
-}
-
-// The part of the file that starts at a schedule's first point.
-pub fn curve(file: &[u8], h: Header, s: Schedule) -> &[u8]
-    requires tabled { Tabled file.now h }
-    requires s_value { curve_misplaced h.points (schedule_in s) ≡ false }
-    ensures result_value { result.now ≡ curve_part file.now (schedule_in s) }
-    ensures points_in_bounds { point_bytes * s.points ≤ length result.now }
-{
-    let file = File {
-        bytes: file,
-        header: h,
-    };
-    file.curve(s).points
 }

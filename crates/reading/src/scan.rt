@@ -1,8 +1,9 @@
 // Grounds 13, 18 and 14: the rows, their schedules and the points of these.
 
-ghost use Rattle.std.specs.Prelude.{◌≡◌, ◌∷◌, [], ◌+◌, ◌≤◌, ◌<◌, ◌^◌, ◌||◌, ltb, MatchResult};
+ghost use Rattle.std.specs.Prelude.{◌≡◌, ◌∷◌, [], ◌+◌, ◌≤◌, ◌<◌, ◌^◌, ◌||◌, ltb, IfOk};
 ghost use Rattle.words.specs.Lists.{any};
 ghost use Rattle.words.specs.Grounds.{beyond as beyond_of, answered};
+ghost use Rattle.words.specs.Refusals.{answer_of};
 ghost use Rattle.reading.specs.Interval.{
   curves_format,
   by_format,
@@ -17,13 +18,14 @@ ghost use Rattle.reading.specs.Interval.{
   point_refused,
   row_grounds,
 };
-ghost use Rattle.reading.specs.Values.{row_in, schedule_in, point_in, Tabled};
+ghost use Rattle.reading.specs.Values.{row_in, schedule_in, point_in};
 
 use crate::curve::Curve;
 use crate::file::File;
 use crate::header::{Format, Header, beyond};
 use crate::rows::{Kind, Point, Row, Schedule, ScheduleKind};
 use crate::sound::ScannedFile;
+use words::refusal::Refusal;
 
 pub const MOST_KILOWATTS: u64 = 4000000;
 
@@ -186,7 +188,8 @@ fn point_refused(curve: &Curve<'_>, j: usize) -> bool
 }
 
 impl<'a> File<'a> {
-    // Grounds 13, 18 and 14: all rows are tested for one before any for the next.
+    // Grounds 13, 18 and 14: all rows are tested for one before any for the next. The loops are left by a
+    // label with the ground's number, as document 01 has the scan.
     pub fn scan(&self) -> u32
         ensures { result ≡ answered (row_grounds self.now.bytes.now) }
     {
@@ -223,26 +226,15 @@ impl<'a> File<'a> {
     }
 
     // The file, if none of these grounds refuses it, or else the first that does.
-    pub fn scanned(self) -> Result<ScannedFile<'a>, u32>
-        ensures { let answer = answered (row_grounds self.entry.bytes.now) in
-            MatchResult result (λ scanned. (scanned.file ≡ self.entry) × (answer ≡ 0))
-            (λ refusal. (refusal ≡ answer) × (0 < refusal)) }
+    pub fn scanned(self) -> Result<ScannedFile<'a>, Refusal>
+        ensures answer { answer_of result ≡ answered (row_grounds self.entry.bytes.now) }
+        ensures file { IfOk result (λ scanned. scanned.file ≡ self.entry) }
     {
         match self.scan() {
             0 => Ok(ScannedFile { file: self }),
-            ground => Err(ground),
+            13 => Err(Refusal::RowOutside),
+            18 => Err(Refusal::SchedulesOutside),
+            _ => Err(Refusal::CurveOutside),
         }
     }
-}
-
-// Grounds 13, 18 and 14, of tables that lie within the file.
-pub fn scan(file: &[u8], h: Header) -> u32
-    requires { Tabled file.now h }
-    ensures { result ≡ answered (row_grounds file.now) }
-{
-    let file = File {
-        bytes: file,
-        header: h,
-    };
-    file.scan()
 }

@@ -27,11 +27,11 @@ impl<'a> ScannedFile<'a> {
     pub fn row(&self, i: usize) -> SoundRow<'a>
         requires { i < self.now.file.header.rows }
         ensures file { result.file ≡ self.now.file }
-        ensures row { row_in result.row ≡ row_words_at self.now.file.bytes.now i }
+        ensures words { row_in result.words ≡ row_words_at self.now.file.bytes.now i }
     {
         SoundRow {
             file: self.file,
-            row: self.file.row(i),
+            words: self.file.row(i),
         }
     }
 }
@@ -40,45 +40,45 @@ impl<'a> ScannedFile<'a> {
 #[derive(Clone, Copy)]
 pub struct SoundRow<'a> {
     pub file: File<'a>,
-    pub row: Row,
-    pub ghost sound: { Sound file.bytes.now (row_in row) },
+    pub words: Row,
+    pub ghost sound: { Sound file.bytes.now (row_in words) },
 }
 
 impl<'a> SoundRow<'a> {
     // Its kind.
     pub fn kind(&self) -> Kind
-        ensures { kind_number result ≡ self.now.row.kind }
+        ensures { kind_number result ≡ self.now.words.kind }
     {
-        self.row.kind()
+        self.words.kind()
     }
 
     // How many schedules it has.
     pub fn schedules(&self) -> usize
-        ensures { result ≡ length (schedules_named self.now.file.bytes.now (row_in self.now.row)) }
+        ensures { result ≡ length (schedules_named self.now.file.bytes.now (row_in self.now.words)) }
     {
-        self.file.schedules(self.row)
+        self.file.schedules(self.words)
     }
 
     // Its schedule k.
     #[tactic(auto, using(crate::proofs::SoundRows::schedules_lie, crate::proofs::SoundRows::kind_known, crate::proofs::SoundRows::schedule_sound))]
     pub fn schedule(&self, k: usize) -> Schedule
-        requires { k < length (schedules_named self.now.file.bytes.now (row_in self.now.row)) }
-        ensures value { schedule_in result ≡ schedule_at self.now.file.bytes.now (row_in self.now.row) k }
+        requires { k < length (schedules_named self.now.file.bytes.now (row_in self.now.words)) }
+        ensures value { schedule_in result ≡ schedule_at self.now.file.bytes.now (row_in self.now.words) k }
         ensures kind { kind_outside (schedule_in result) ≡ false }
         ensures sound { SoundCurve self.now.file.bytes.now (schedule_in result) }
     {
-        self.file.schedule(self.row, k)
+        self.file.schedule(self.words, k)
     }
 
     // The schedule that it was dispatched on, if it has any.
     #[tactic(auto, using(crate::proofs::SoundRows::kind_known, crate::proofs::SoundRows::schedule_sound))]
     pub fn dispatched_on(&self) -> Option<Schedule>
-        ensures { MatchOption result (schedules_named self.now.file.bytes.now (row_in self.now.row) ≡ [])
-            (λ s. Dispatched self.now.file.bytes.now (row_in self.now.row) s
+        ensures { MatchOption result (schedules_named self.now.file.bytes.now (row_in self.now.words) ≡ [])
+            (λ s. Dispatched self.now.file.bytes.now (row_in self.now.words) s
             × (kind_outside (schedule_in s) ≡ false)
             × SoundCurve self.now.file.bytes.now (schedule_in s)) }
     {
-        self.file.dispatched_on(self.row)
+        self.file.dispatched_on(self.words)
     }
 
     // The curve of one of its schedules.

@@ -12,12 +12,15 @@ use Rattle.words.specs.Words.{written_at}
 use Rattle.words.proofs.Lists.{sum_start, sum_turn, sum_end}
 use Rattle.words.proofs.Access.{write_more, write_none, length_written_at}
 use Rattle.reading.specs.Interval.{most_kilowatts, header_of, row_words_at, row_with, row_of, rows_of}
-use Rattle.reading.specs.Values.{terms_in, row_in, Sound}
+use Rattle.reading.specs.Values.{terms_in, row_in}
+use Rattle.reading.specs.declared.file.File.{File as FileValue}
 use Rattle.reading.specs.declared.header.Header.{Header as HeaderValue}
 use Rattle.reading.specs.declared.rows.Row.{Row as RowValue}
+use Rattle.reading.specs.declared.sound.SoundRow.{SoundRow as SoundRowValue}
 use Rattle.reading.proofs.Facts.{row_count_lem}
-use Rattle.reading.proofs.SoundRows.{sound_row}
 use Rattle.assessment.specs.Assessment.{
+  Ratio,
+  RowFigures,
   ratio_of,
   row_figures,
   account_of,
@@ -29,7 +32,7 @@ use Rattle.assessment.specs.Assessment.{
   charges,
   total_bonus,
 }
-use Rattle.assessment.specs.Values.{ratio_in, figures_in, account_in}
+use Rattle.assessment.specs.Values.{row_said, ratio_in, figures_in, account_in}
 use Rattle.assessment.specs.declared.ratio.Ratio.{Ratio as RatioValue}
 use Rattle.assessment.specs.declared.row.Figures.{Figures as FiguresValue}
 use Rattle.assessment.specs.declared.account.Account.{Account as AccountValue}
@@ -148,6 +151,13 @@ charging_starts ledger file result =
       left = ap (λ cs. left_to_write (length (assessed_file ledger file).rows) 0 cs result) (sym start);
     }
 
+-- the figures of a row that a value says are those of its file
+pub figures_of_file : (row : SoundRowValue) (v : FileValue) (q : Ratio) {f : RowFigures} → row.file ≡ v
+    → f ≡ row_figures row.file.header.region_wide q (row_said row)
+    → f ≡ row_figures v.header.region_wide q (row_of v.bytes.now (row_in row.words))
+figures_of_file row v q same figured =
+    figured ∙ ap (λ (v : FileValue). row_figures v.header.region_wide q (row_of v.bytes.now (row_in row.words))) same
+
 -- a pass that charges rows, with row i and account j next, and what is left of its budget
 pub record Pass (ledger file result₀ result : List ℕ) (cents kw i j comparisons_left : ℕ) : Type 0 where
   pub within : j ≤ account_count ledger
@@ -200,10 +210,6 @@ module _ {ledger file : List ℕ} {s : StandingValue} {h : HeaderValue} (p : Pas
       unfolding row_in
       budget_lasts = row_enough p.tabled.read pass.budget taken read refl
 
-      -- it is a row that grounds 13, 18 and 14 do not refuse
-      pub row_sound : Sound file (row_in row)
-      row_sound = sound_row p.scanned p.tabled.read i taken read
-
     -- and the walk goes on to account k for it
     module _ (taken : i < h.rows) (row : RowValue) (read : row_in row ≡ row_words_at file i) {k : ℕ}
         (place : k ≡ j + before row.id (drop j (ids_in (ledger_of ledger)))) where
@@ -215,23 +221,9 @@ module _ {ledger file : List ℕ} {s : StandingValue} {h : HeaderValue} (p : Pas
       pub account_there : {accounts : ℕ} → accounts ≡ account_count ledger → k < accounts
       account_there count = omega (arith, found.within, count)
 
-      -- the row's figures f by the ratio q, and its account a, raised to b
-      module _ (q : RatioValue) (ratio : ratio_in q ≡ ratio_of (header_of file) (rows_of file)) (f : FiguresValue)
-          (figured : figures_in f ≡ row_figures h.region_wide (ratio_in q) (row_of file (row_in row)))
-          (a b : AccountValue) (account : account_in a ≡ account_at (drop (ledger_bytes k) ledger))
+      -- the row's account a, raised to b
+      module _ (a b : AccountValue) (account : account_in a ≡ account_at (drop (ledger_bytes k) ledger))
           (raise : account_in b ≡ raised row.committed (account_in a)) where
-        -- its figures are those of the interval's row
-        figures_are : figures_in f ≡ (charged_at ledger file i).figures
-        unfolding charged_of charged_row
-        figures_are = figured ∙ (λ x. row_figures (region_is p x) (ratio x) (row_of file (read x)))
-
-        -- and keep their bounds
-        pub shortfall_few : f.shortfall.0 ≤ most_kilowatts
-        unfolding figures_in
-        shortfall_few =
-            let bounds = (charged_bounded p (row_at file i) (row_within p taken)).figures in
-            omega (arith, ap (λ g. g.shortfall) figures_are, bounds.shortfall)
-
         -- its account is that of the row's id, raised
         account_is : account_in b
             ≡ raised (row_at file i).committed (account_of (row_at file i).id (ledger_of ledger).accounts)
@@ -247,69 +239,84 @@ module _ {ledger file : List ℕ} {s : StandingValue} {h : HeaderValue} (p : Pas
             omega
             (arith, ap (λ a. a.largest) account_is, ap (λ a. a.largest) found.own, kw, (row_within p taken).committed)
 
-        -- its bonus is that of the interval's row
-        bonus_is : f.bonus.0 ≡ this.figures.bonus
-        unfolding figures_in
-        bonus_is = ap (λ g. g.bonus) figures_are
+        -- the row's figures f by the ratio q
+        module _ (q : RatioValue) (ratio : ratio_in q ≡ ratio_of (header_of file) (rows_of file)) (f : FiguresValue)
+            (figured : figures_in f ≡ row_figures h.region_wide (ratio_in q) (row_of file (row_in row))) where
+          -- its figures are those of the interval's row
+          figures_are : figures_in f ≡ (charged_at ledger file i).figures
+          unfolding charged_of charged_row
+          figures_are = figured ∙ (λ x. row_figures (region_is p x) (ratio x) (row_of file (read x)))
 
-        -- the bonus is left to add to the sum so far
-        bonus_next : kw + f.bonus.0 + sum (λ c. c.figures.bonus) rest ≡ total_bonus v
-        bonus_next =
-            let turn = charged_turn ledger file i (in_file p taken) in
-            sum_turn (λ c. c.figures.bonus) kw (total_bonus v) f.bonus.0 turn pass.charging.bonus bonus_is
+          -- and keep their bounds
+          pub shortfall_few : f.shortfall.0 ≤ most_kilowatts
+          unfolding figures_in
+          shortfall_few =
+              let bounds = (charged_bounded p (row_at file i) (row_within p taken)).figures in
+              omega (arith, ap (λ g. g.shortfall) figures_are, bounds.shortfall)
 
-        -- so the sum fits with it
-        pub bonus_more : kw + f.bonus.0 < 2 ^ 64
-        bonus_more = omega (arith, bonus_next, bonus_fits p)
+          -- its bonus is that of the interval's row
+          bonus_is : f.bonus.0 ≡ this.figures.bonus
+          unfolding figures_in
+          bonus_is = ap (λ g. g.bonus) figures_are
 
-        -- what the row is charged
-        module _ {cash : ℕ} (charged : cash ≡ charge (terms_in s.terms) (account_in b) f.shortfall.0) where
-          -- is the charge of the interval's row
-          charge_is : cash ≡ this.charge
-          unfolding figures_in charged_of charged_row
-          charge_is = charged ∙ (λ x. charge (terms_are p x) (account_is x) (figures_are x).shortfall)
-
-          -- it is left to add to the sum so far
-          charges_next : cents + cash + sum (λ c. c.charge) rest ≡ charges v
-          charges_next =
+          -- the bonus is left to add to the sum so far
+          bonus_next : kw + f.bonus.0 + sum (λ c. c.figures.bonus) rest ≡ total_bonus v
+          bonus_next =
               let turn = charged_turn ledger file i (in_file p taken) in
-              sum_turn (λ c. c.charge) cents (charges v) cash turn pass.charging.charges charge_is
+              sum_turn (λ c. c.figures.bonus) kw (total_bonus v) f.bonus.0 turn pass.charging.bonus bonus_is
 
           -- so the sum fits with it
-          pub charges_more : cents + cash < 2 ^ 64
-          charges_more = omega (arith, charges_next, charges_fit p, most_charge_lem)
+          pub bonus_more : kw + f.bonus.0 < 2 ^ 64
+          bonus_more = omega (arith, bonus_next, bonus_fits p)
 
-          -- once both are added and the row's words are written, the rows from i + 1 on are left, and the accounts
-          -- behind the row's
-          pub pass_turn : {after : List ℕ} {more longer spent next left : ℕ}
-              → after ≡ cond (ltb (length result) (result_bytes h.rows)) result
-              (written_at (result_bytes i) (words_for f cash) result)
-              → more ≡ cents + cash → longer ≡ kw + f.bonus.0
-              → spent ≡ budget - comparisons row.id (drop j (ids_in (ledger_of ledger)))
-              → next ≡ k + 1 → left ≡ spent → Pass ledger file result₀ after more longer (i + 1) next left
-          unfolding row_in
-          pass_turn {after} put cents_more kw_more take on left =
-              let n = length v.rows in
-              let ws = words_for f cash in
-              let low : i < n = omega (arith, taken, rows_count p) in
-              let by_rows : ℕ → List ℕ
-              = λ n. cond (ltb (length result) (result_bytes n)) result (written_at (result_bytes i) ws result) in
-              let written = put ∙ ap by_rows (sym (rows_count p)) in
-              let words = words_of f cash this figures_are charge_is in
-              let step = left_turn n i this rest ws result after low words written in
-              let turn = charged_turn ledger file i (in_file p taken) in
-              record {
-                within = omega (arith, found.within);
-                walks = rw on found.next;
-                charging = record {
-                  charges = rw cents_more charges_next;
-                  bonus = rw kw_more bonus_next;
-                  long = step.0 ∙ pass.charging.long;
-                  left = step.1 ∙ ap (λ cs. left_to_write n i cs result) (sym turn) ∙ pass.charging.left;
-                };
-                budget = row_spends p.tabled.read pass.budget taken read refl place take on left;
-              }
+          -- what the row is charged
+          module _ {cash : ℕ} (charged : cash ≡ charge (terms_in s.terms) (account_in b) f.shortfall.0) where
+            -- is the charge of the interval's row
+            charge_is : cash ≡ this.charge
+            unfolding figures_in charged_of charged_row
+            charge_is = charged ∙ (λ x. charge (terms_are p x) (account_is x) (figures_are x).shortfall)
+
+            -- it is left to add to the sum so far
+            charges_next : cents + cash + sum (λ c. c.charge) rest ≡ charges v
+            charges_next =
+                let turn = charged_turn ledger file i (in_file p taken) in
+                sum_turn (λ c. c.charge) cents (charges v) cash turn pass.charging.charges charge_is
+
+            -- so the sum fits with it
+            pub charges_more : cents + cash < 2 ^ 64
+            charges_more = omega (arith, charges_next, charges_fit p, most_charge_lem)
+
+            -- once both are added and the row's words are written, the rows from i + 1 on are left, and the accounts
+            -- behind the row's
+            pub pass_turn : {after : List ℕ} {more longer spent next left : ℕ}
+                → after ≡ cond (ltb (length result) (result_bytes h.rows)) result
+                (written_at (result_bytes i) (words_for f cash) result)
+                → more ≡ cents + cash → longer ≡ kw + f.bonus.0
+                → spent ≡ budget - comparisons row.id (drop j (ids_in (ledger_of ledger)))
+                → next ≡ k + 1 → left ≡ spent → Pass ledger file result₀ after more longer (i + 1) next left
+            unfolding row_in
+            pass_turn {after} put cents_more kw_more take on left =
+                let n = length v.rows in
+                let ws = words_for f cash in
+                let low : i < n = omega (arith, taken, rows_count p) in
+                let by_rows : ℕ → List ℕ
+                = λ n. cond (ltb (length result) (result_bytes n)) result (written_at (result_bytes i) ws result) in
+                let written = put ∙ ap by_rows (sym (rows_count p)) in
+                let words = words_of f cash this figures_are charge_is in
+                let step = left_turn n i this rest ws result after low words written in
+                let turn = charged_turn ledger file i (in_file p taken) in
+                record {
+                  within = omega (arith, found.within);
+                  walks = rw on found.next;
+                  charging = record {
+                    charges = rw cents_more charges_next;
+                    bonus = rw kw_more bonus_next;
+                    long = step.0 ∙ pass.charging.long;
+                    left = step.1 ∙ ap (λ cs. left_to_write n i cs result) (sym turn) ∙ pass.charging.left;
+                  };
+                  budget = row_spends p.tabled.read pass.budget taken read refl place take on left;
+                }
 
 -- by these, search finds what a turn of the pass knows
 pub ruleset turns =
-    (pass_starts, budget_lasts, row_sound, account_there, shortfall_few, largest_few, bonus_more, charges_more, pass_turn)
+    (pass_starts, budget_lasts, figures_of_file, account_there, shortfall_few, largest_few, bonus_more, charges_more, pass_turn)

@@ -1,7 +1,6 @@
 // The charges of a file's rows, each to its account.
 
 ghost use Rattle.std.specs.Prelude.{◌≡◌, ◌≤◌};
-ghost use Rattle.reading.specs.Block.{leap_year};
 ghost use Rattle.reading.specs.Interval.{header_of, rows_of};
 ghost use Rattle.assessment.specs.Assessment.{ratio_of, charges, total_bonus};
 ghost use Rattle.assessment.specs.Values.{ratio_in};
@@ -12,34 +11,32 @@ use crate::result::{Sums, write_row};
 use assessment::ratio::Ratio;
 use assessment::row::row_figures;
 use assessment::units::{Cents, Kilowatts, Quantity};
-use ledger::layout::{Accounts, Standing};
+use ledger::layout::{Accounts, Standing, account_at};
 use ledger::walk::Walk;
-use reading::header::Header;
-use reading::rows::row_at;
+use reading::sound::ScannedFile;
 
-// An interval to settle: what stands before the ledger's accounts, the file with its header, and its ratio.
-// That grounds 6 to 14 do not refuse it, the functions require: posting changes the ledger, so that no value can hold it.
+// An interval to settle: what stands before the ledger's accounts, the file, and its ratio.
+// That grounds 6 to 12 do not refuse it, the functions require: posting changes the ledger, so that no value can hold it.
 #[derive(Clone, Copy)]
 pub struct Interval<'a> {
     pub standing: Standing,
-    pub file: &'a [u8],
-    pub header: Header,
+    pub scanned: ScannedFile<'a>,
     pub ratio: Ratio,
-    pub ghost days_few: { header.days ≤ leap_year },
-    pub ghost ratio_is: { ratio_in ratio ≡ ratio_of (header_of file.now) (rows_of file.now) },
+    pub ghost ratio_is: { ratio_in ratio
+        ≡ ratio_of (header_of scanned.file.bytes.now) (rows_of scanned.file.bytes.now) },
 }
 
 // Adds up charges and bonuses, and writes the words of every row but for its credit
 // into a result that has room for them.
 pub fn charge_rows(ledger: &[u8], interval: Interval, res: &mut [u8]) -> Sums
-    requires { Passed ledger.now interval.standing interval.file.now interval.header }
-    ensures charges_value { result.charges.0 ≡ charges (assessed_file ledger.now interval.entry.file.now) }
-    ensures bonus_value { result.bonus.0 ≡ total_bonus (assessed_file ledger.now interval.entry.file.now) }
+    requires { Passed ledger.now interval.standing interval.scanned.file.bytes.now interval.scanned.file.header }
+    ensures charges_value { result.charges.0 ≡ charges (assessed_file ledger.now interval.entry.scanned.file.bytes.now) }
+    ensures bonus_value { result.bonus.0 ≡ total_bonus (assessed_file ledger.now interval.entry.scanned.file.bytes.now) }
     ensures res_after { res.new
-        ≡ charged_result (assessed_file ledger.now interval.entry.file.now) res.old }
+        ≡ charged_result (assessed_file ledger.now interval.entry.scanned.file.bytes.now) res.old }
 {
-    let file = interval.file;
-    let h = interval.header;
+    let scanned = interval.scanned;
+    let rows = scanned.file.header.rows;
     let s = interval.standing;
     let accounts = Accounts {
         bytes: ledger,
@@ -47,14 +44,14 @@ pub fn charge_rows(ledger: &[u8], interval: Interval, res: &mut [u8]) -> Sums
     };
     let mut charges = Cents(0);
     let mut bonus = Kilowatts(0);
-    let mut walk = Walk::start(h.rows, s.accounts);
-    for i in 0..h.rows {
-        let row = row_at(file, h, i);
-        walk = walk.to(accounts, row.id);
-        let f = row_figures(file, h, row, interval.ratio);
-        let account = accounts.at(walk.account).raised(Kilowatts(row.committed));
+    let mut walk = Walk::start(rows, s.accounts);
+    for i in 0..rows {
+        let row = scanned.row(i);
+        walk = walk.to(accounts, row.words.id);
+        let f = row_figures(&row, interval.ratio);
+        let account = account_at(ledger, walk.account).raised(Kilowatts(row.words.committed));
         let charge = account.charge(s.terms, f.shortfall);
-        write_row(res, h.rows, i, f, charge);
+        write_row(res, rows, i, f, charge);
         charges = charges.plus(charge);
         bonus = bonus.plus(f.bonus);
         walk = walk.on();

@@ -1,9 +1,10 @@
 // Grounds 8 to 15 of a call of settling: all that need a ledger and a file but no charges.
 
-ghost use Rattle.std.specs.Prelude.{◌≡◌};
+ghost use Rattle.std.specs.Prelude.{◌≡◌, IfOk};
 ghost use Rattle.words.specs.Grounds.{answered};
+ghost use Rattle.words.specs.Refusals.{answer_of};
 ghost use Rattle.reading.specs.Interval.{rows_of};
-ghost use Rattle.reading.specs.Values.{terms_in, header_in, HeaderRead, Tabled};
+ghost use Rattle.reading.specs.Values.{terms_in, header_in, HeaderRead};
 ghost use Rattle.ledger.specs.Ledger.{ledger_of};
 ghost use Rattle.settling.specs.Settling.{other_terms, row_ids_unknown, later_grounds};
 
@@ -11,11 +12,12 @@ use crate::result::result_bytes;
 use ledger::ground_six::Ledger;
 use ledger::walk::Walk;
 use reading::block::Terms;
-use reading::header::{Header, header_outside, tables_misplaced};
-use reading::rows::row_at;
-use reading::scan::scan;
+use reading::file::File;
+use reading::header::{Header, header_outside};
+use reading::sound::ScannedFile;
+use words::refusal::Refusal;
 
-// Ground 8.
+// Ground 8. Each test returns, so that a proof of its own says what it decides.
 fn other_terms(terms: Terms, h: Header) -> bool
     ensures { result ≡ other_terms (terms_in terms) (header_in h) }
 {
@@ -27,15 +29,15 @@ fn other_terms(terms: Terms, h: Header) -> bool
 
 // Ground 12, of a ledger whose ids rise: a row whose id does not rise, or has no account,
 // is not found before the accounts end.
-fn row_ids_unknown(ledger: Ledger, file: &[u8], h: Header) -> bool
-    requires { Tabled file.now h }
-    ensures { result ≡ row_ids_unknown (ledger_of ledger.entry.bytes.now) (rows_of file.now) }
+fn row_ids_unknown(ledger: Ledger, file: &File<'_>) -> bool
+    ensures { result ≡ row_ids_unknown (ledger_of ledger.entry.bytes.now) (rows_of file.now.bytes.now) }
 {
+    let rows = file.header.rows;
     let accounts = ledger.accounts();
-    let mut walk = Walk::start(h.rows, accounts.count);
-    for i in 0..h.rows {
-        walk = walk.to(accounts, row_at(file, h, i).id);
-        if walk.ended(accounts) {
+    let mut walk = Walk::start(rows, accounts.count);
+    for i in 0..rows {
+        walk = walk.to(accounts, file.row(i).id);
+        if walk.ended(accounts.count) {
             return true;
         }
         walk = walk.on();
@@ -43,34 +45,37 @@ fn row_ids_unknown(ledger: Ledger, file: &[u8], h: Header) -> bool
     false
 }
 
-// The first of grounds 8 to 15 that applies to a ledger and a file, or 0.
+// The file, if none of grounds 8 to 15 refuses it with a ledger and a result, or else the first that does.
 #[tactic(auto, using(crate::proofs::SettlingTests::later))]
-pub fn later_ground(ledger: Ledger, file: &[u8], h: Header, res: &[u8]) -> u32
+pub fn later_grounds<'a>(
+    ledger: Ledger,
+    file: &'a [u8],
+    h: Header,
+    res: &[u8],
+) -> Result<ScannedFile<'a>, Refusal>
     requires { HeaderRead file.now h }
-    ensures { result ≡ answered (later_grounds ledger.entry.bytes.now file.now res.now) }
+    ensures answer { answer_of result ≡ answered (later_grounds ledger.entry.bytes.now file.entry.now res.now) }
+    ensures scanned { IfOk result (λ scanned. (scanned.file.bytes.now ≡ file.entry.now) × (scanned.file.header ≡ h)) }
 {
     let s = ledger.standing;
     if other_terms(s.terms, h) {
-        return 8;
+        return Err(Refusal::OtherTerms);
     }
     if header_outside(h) {
-        return 9;
+        return Err(Refusal::HeaderOutside);
     }
     if h.interval < s.earliest {
-        return 10;
+        return Err(Refusal::TooEarly);
     }
-    if tables_misplaced(file, h) {
-        return 11;
+    let Some(tabled) = File::of(file, h) else {
+        return Err(Refusal::TablesMisplaced);
+    };
+    if row_ids_unknown(ledger, &tabled) {
+        return Err(Refusal::IdsUnknown);
     }
-    if row_ids_unknown(ledger, file, h) {
-        return 12;
-    }
-    let ground = scan(file, h);
-    if ground != 0 {
-        return ground;
-    }
+    let scanned = tabled.scanned()?;
     if res.len() < result_bytes(h.rows) {
-        return 15;
+        return Err(Refusal::ResultTooShort);
     }
-    0
+    Ok(scanned)
 }

@@ -47,6 +47,9 @@ pub struct Balance {
     pub charge: Cents,
 }
 
+// The functions below require that rows are as few as a file's, and that the result has room for them:
+// the buffer changes between the calls, so that no value can hold that it has room.
+
 // Bytes of a result of so many rows, and so where the next row begins.
 pub fn result_bytes(rows: usize) -> usize
     requires { rows ≤ most_rows }
@@ -134,6 +137,7 @@ pub fn write_summary(res: &mut [u8], s: Summary)
         s.sums.bonus.0,
         ratio.numerator.0,
         ratio.denominator.0,
+        // Nothing is lost: a size has 64 bits here.
         s.rows as u64,
     ];
     store::<u64>(&words, res);

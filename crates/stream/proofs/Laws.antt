@@ -52,16 +52,6 @@ module _ (most : ℕ) (head : List ℕ) (whole : length_bytes ≤ length head) (
   pub due_within : n ≤ most → bytes_due most head ≡ n
   due_within h = due_whole ∙ rw (le-ltb most n h)
 
--- no more bytes are due than the limit
-pub due_most : (most : ℕ) (head : List ℕ) → bytes_due most head ≤ most
-unfolding bytes_due
-due_most most head = by (ltb (length head) length_bytes) (ltb most (number length_bytes head)) refl
-  where
-    by : (t u : Bool) → ltb most (number length_bytes head) ≡ u → cond t 0 (cond u 0 (number length_bytes head)) ≤ most
-    by true u e = omega arith
-    by false true e = omega arith
-    by false false e = ltb-false most (number length_bytes head) e
-
 -- what comes next after a whole length n, by the limit and by the bytes b after it
 unfoldable pub following : ℕ → ℕ → List ℕ → Next
 following most n b =

@@ -1,16 +1,20 @@
 -- What the code's answers mean.
-use Rattle.std.specs.Prelude.{ℕ, ◌≡◌, List, [], ◌++◌, Bool}
-use Rattle.stream.specs.declared.Found.{Found}
-use Rattle.stream.specs.declared.Found.TheVariants.{Ended, Cut, OverLong, Block}
+use Rattle.std.specs.Prelude.{ℕ, ◌≡◌, List, [], ◌++◌, Bool, Result, Ok, Err}
+use Rattle.stream.specs.declared.End.{End as EndValue}
+use Rattle.stream.specs.declared.End.TheVariants.{Ended, Cut, OverLong}
 use Rattle.stream.specs.Stream.{End, Next}
 use Rattle.stream.specs.Steps.{Outcome}
 
+-- the end that a value says
+unfoldable pub end_in : EndValue → End
+end_in Ended = End.ended
+end_in Cut = End.cut
+end_in OverLong = End.over_long
+
 -- what comes next, by the code's answer and the bytes read after a length
-unfoldable pub found_as : Found → List ℕ → Next
-found_as Ended b = Next.stop End.ended
-found_as Cut b = Next.stop End.cut
-found_as OverLong b = Next.stop End.over_long
-found_as Block b = Next.block b []
+unfoldable pub found_as : {A : Type 0} → Result A EndValue → List ℕ → Next
+found_as (Ok a) b = Next.block b []
+found_as (Err e) b = Next.stop (end_in e)
 
 -- a step as code takes it: the state, what it puts behind the bytes to print, and whether to go on
 pub record StepTaken {S : Type 0} (o : Outcome ℕ S) (state : S) (before after : List ℕ) (on : Bool) : Type 0 where

@@ -3,34 +3,19 @@
 #![tactic(auto)]
 
 ghost use Rattle.std.specs.Prelude.{◌≡◌, ◌++◌, [], ◌≤◌, length, take};
-ghost use Rattle.stream.specs.Stream.{length_bytes, next_block, stops as stops_at, bytes_due};
+ghost use Rattle.stream.specs.Stream.{length_bytes, next_block, bytes_due};
 ghost use Rattle.stream.specs.Code.{found_as};
 
-use words::Word;
+use words::size;
 
 pub const LENGTH_BYTES: usize = 4;
 
-// What stands in a length and in the bytes read after it: an end of the stream, or a whole block.
-#[derive(Clone, Copy)]
-pub enum Found {
+// An end of a stream: where a length is due, inside a length or its block, or at a length over the limit.
+#[derive(Clone, Copy, PartialEq, Eq, Debug)]
+pub enum End {
     Ended,
     Cut,
     OverLong,
-    Block,
-}
-
-impl Found {
-    // Whether the stream stops there.
-    pub fn stops(self) -> bool
-        ensures { result ≡ stops_at (found_as self []) }
-    {
-        match self {
-            Found::Ended => true,
-            Found::Cut => true,
-            Found::OverLong => true,
-            Found::Block => false,
-        }
-    }
 }
 
 // How many bytes are due after a length, or after what was read of it, `head`.
@@ -41,7 +26,7 @@ pub fn bytes_due(most: usize, head: &[u8]) -> usize
     if head.len() < LENGTH_BYTES {
         return 0;
     }
-    let n = u32::number(head, 0) as usize;
+    let n = size(head, 0);
     if most < n {
         return 0;
     }
@@ -58,25 +43,25 @@ pub fn due_part<'a>(most: usize, head: &[u8], buffer: &'a mut [u8]) -> &'a mut [
     &mut buffer[..due]
 }
 
-// What comes next in a stream, by a length and the bytes that are due after it, as far as both were read.
-pub fn next_block(most: usize, head: &[u8], block: &[u8]) -> Found
+// Whether the bytes read after a length are the next block of a stream, or else which end the stream has there.
+pub fn next_block(most: usize, head: &[u8], block: &[u8]) -> Result<(), End>
     requires head_in_bounds { length head.now ≤ length_bytes }
     requires block_len_bound { length block.now ≤ bytes_due most head.now }
     ensures { next_block most (head.now ++ block.now) ≡ found_as result block.now }
 {
     let got = head.len();
     if got == 0 {
-        return Found::Ended;
+        return Err(End::Ended);
     }
     if got < LENGTH_BYTES {
-        return Found::Cut;
+        return Err(End::Cut);
     }
-    let bytes = u32::number(head, 0) as usize;
+    let bytes = size(head, 0);
     if most < bytes {
-        return Found::OverLong;
+        return Err(End::OverLong);
     }
     if block.len() < bytes {
-        return Found::Cut;
+        return Err(End::Cut);
     }
-    Found::Block
+    Ok(())
 }

@@ -19,8 +19,8 @@ use borrow.Rule.Slice.PartMut.{put_mid}
 use lib.ListN.{length, take, drop, get_or, length-append, length-drop, drop_of_length-le}
 use lib.Seq.{drop-drop, drop_at, length-take-le}
 use Rattle.words.specs.Words.{number, bytes_of, number_at, bytes_of_words, placed_at, written, written_at}
-use Rattle.words.proofs.Words.{length_bytes_of, length_bytes_of_words, length_written, beyond_written}
-use Rattle.words.proofs.Placing.{place_none, place_more, place_rest}
+use Rattle.words.proofs.Words.{length_bytes_of_words, length_written, beyond_written}
+use Rattle.words.proofs.Placing.{place_none, place_more}
 
 -- no bytes hold 0
 number_nil : (n : ℕ) → number n [] ≡ 0
@@ -87,17 +87,6 @@ front_placed ws b = written_placed 0 ws b
 pub word_placed : (at v : ℕ) (b : List ℕ) → written_at at (v ∷ []) b ≡ placed_at at (bytes_of 8 v) b
 unfolding bytes_of_words
 word_placed at v b = written_placed at (v ∷ []) b ∙ ap (λ bs. placed_at at bs b) (append-nil (bytes_of 8 v))
-
--- a word's lower half placed, and its upper half behind it, are the word written
-pub halves_placed : (at v : ℕ) (b x y : List ℕ) → at + 8 ≤ length b → x ≡ placed_at at (bytes_of 4 v) b
-    → y ≡ placed_at (at + 4) (bytes_of 4 (v / 4294967296)) x
-    → y ≡ written_at at (v ∷ []) b
-halves_placed at v b x y room low high =
-    let four = length_bytes_of 4 v in
-    high
-    ∙ place_rest at (bytes_of 4 v) (bytes_of 4 (v / 4294967296)) b x (written_at at (v ∷ []) b) (at + 4)
-    (omega (arith, four)) low (omega (arith, four))
-    (ap (λ bs. placed_at at bs b) (sym (split_bytes 4 4 v)) ∙ sym (word_placed at v b))
 
 -- words of two lists, one list after the other
 pub words_append : (n : ℕ) (ws vs : List ℕ) → bytes_of_words n (ws ++ vs) ≡ bytes_of_words n ws ++ bytes_of_words n vs

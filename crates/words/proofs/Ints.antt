@@ -3,9 +3,9 @@ use Prim.Native.Nat.{ℕ, zero, suc, ◌+◌, ◌-◌, ◌≤◌, ◌<◌}
 use mathlib.Core.Bool.{Bool, true, false, cond}
 use mathlib.Core.Path.{◌≡◌, refl, sym, ap, subst, ◌∙◌}
 use native.Mathlib.Omega.{arith}
-use borrow.Author.Tests.{leb-true, leb-false, ltb-true, ltb-false, le-leb, le-ltb, lt-ltb}
+use borrow.Author.Tests.{leb-true, leb-false, le-leb, le-ltb, lt-ltb}
 use lib.Dec.{T, ltb}
-use lib.IntN.{ℤ, pos, negsuc, sub_ℕ, nat_abs, ◌+ℤ◌, ◌-ℤ◌}
+use lib.IntN.{ℤ, pos, negsuc, sub_ℕ, ◌+ℤ◌, ◌-ℤ◌}
 use lib.Signed.{le_z, mag}
 use mir.Syntax.{w32, w64}
 use mir.Val.{to_z, of_z}
@@ -38,10 +38,6 @@ diff (pos a) (pos (suc b)) e = sub_pos a (suc b) (leb-true (suc b) a e)
 diff (pos a) (negsuc b) e = refl
 diff (negsuc a) (pos b) e = never e
 diff (negsuc a) (negsuc b) e = sub_pos (suc b) (suc a) (omega (arith, leb-true a b e)) ∙ ap pos (omega arith)
-
--- where b is at or below a, the size of a less b is the gap between them
-pub nat_abs_diff : (a b : ℤ) → le_z b a ≡ true → nat_abs (a -ℤ b) ≡ gap_of a b
-nat_abs_diff a b e = ap nat_abs (diff a b e)
 
 -- a gap is at most the sizes of both numbers and 1
 pub gap_le : (a b : ℤ) → gap_of a b ≤ mag a + mag b + 1
@@ -91,15 +87,6 @@ signed_bits w h = by (ltb w 2147483648)
     by : (t : Bool) → cond t (pos w) (negsuc (4294967296 - suc w)) ≡ cond t (pos w) (pos w -ℤ pos 4294967296)
     by true = refl
     by false = sym (less_larger w 4294967296 h)
-
--- a signed number of 32 bits has a size below 2^31
-pub signed_size : (w : ℕ) → w < 4294967296 → mag (signed w) < 2147483648
-unfolding signed
-signed_size w h = by (ltb w 2147483648) refl
-  where
-    by : (t : Bool) → ltb w 2147483648 ≡ t → mag (cond t (pos w) (pos w -ℤ pos 4294967296)) < 2147483648
-    by true e = omega (arith, ltb-true w 2147483648 e)
-    by false e = rw (less_larger w 4294967296 h) (omega (arith, ltb-false w 2147483648 e))
 
 -- of two natural numbers, one less the other has at most the size of their sum
 mag_cond : (t : Bool) (a b : ℕ) → mag (cond t (negsuc (b - suc a)) (pos (a - b))) ≤ a + b

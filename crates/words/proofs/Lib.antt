@@ -7,3 +7,4 @@ pub mod Grounds
 pub mod Placing
 pub mod Access
 pub mod Ints
+pub mod Refusals

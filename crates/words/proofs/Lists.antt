@@ -122,17 +122,6 @@ module _ {A : Type 0} {left : List A} where
   unfolding any
   any_end p asks none = asks ∙ ap (any p) none
 
-  -- where no member passes, none of what is left does
-  pub none_start : (p : A → Bool) {all : List A} → all ≡ left → any p all ≡ false → any p left ≡ false
-  none_start p start none = sym (ap (any p) start) ∙ none
-
-  -- neither the next nor a later one
-  pub none_turn : (p : A → Bool) {x : A} {rest : List A} → left ≡ x ∷ rest → any p left ≡ false
-      → (p x ≡ false) × (any p rest ≡ false)
-  none_turn p {x} {rest} turn none =
-      let both = sym (any_turn p (p x) refl turn refl) ∙ none in
-      (not_first (p x) (any p rest) both, not_second (p x) (any p rest) both)
-
 -- a number that is found among others is one of them
 pub found_member : (i : ℕ) (xs : List ℕ) → any (λ x. eqb x i) xs ≡ true → Memᴰ i xs
 unfolding any

@@ -6,7 +6,7 @@ use native.Mathlib.Numerals.{add-one}
 use native.Mathlib.Nat.{add-zero}
 use native.Mathlib.Omega.{arith}
 use lib.ListN.{length, take, drop, get_or, set, length-append, take-append-drop, drop_of_length-le}
-use lib.Seq.{length-take-le, take_at, drop_at, drop-drop, drop-cons, set_split, take-set-le, append_snoc}
+use lib.Seq.{length-take-le, take_at, drop_at, drop-drop, drop-cons, set_split, append_snoc}
 use Rattle.words.specs.Words.{bytes_of, bytes_of_words, placed_at}
 use Rattle.words.proofs.Words.{length_bytes_of}
 
@@ -36,42 +36,11 @@ place_more at xs ys b h =
     ∙ ap (λ k. drop k b) far)
     ∙ ap (λ p. p ++ drop (at + length (xs ++ ys)) b) (append_assoc (take at b) xs ys)
 
--- two writers one after the other: the bytes of both, and the place behind them
-pub then_place : (at : ℕ) (xs ys b x y : List ℕ) (m n : ℕ) → at + length xs ≤ length b → x ≡ placed_at at xs b
-    → m ≡ at + length xs
-    → y ≡ placed_at m ys x → n ≡ m + length ys → (y ≡ placed_at at (xs ++ ys) b) × (n ≡ at + length (xs ++ ys))
-then_place at xs ys b x y m n h e p f q = (
-  f ∙ ap₂ (λ k l. placed_at k ys l) p e ∙ place_more at xs ys b h,
-  omega (arith, length-append xs ys),
-)
-
 -- what is left to place, once its first part is placed
 pub place_rest : (at : ℕ) (xs ys b x goal : List ℕ) (m : ℕ) → at + length xs ≤ length b → x ≡ placed_at at xs b
     → m ≡ at + length xs
     → placed_at at (xs ++ ys) b ≡ goal → placed_at m ys x ≡ goal
 place_rest at xs ys b x goal m h e p left = ap₂ (λ k l. placed_at k ys l) p e ∙ place_more at xs ys b h ∙ left
-
--- bytes placed in front of a byte that has been stored
-pub place_last : (at i d : ℕ) (xs b : List ℕ) → i ≡ at + length xs → i < length b
-    → placed_at at xs (set b i d) ≡ placed_at at (xs ++ d ∷ []) b
-unfolding placed_at
-place_last at i d xs b e h =
-    let front : length (take i b) ≡ i = length-take-le i b (omega arith) in
-    let far : suc i ≡ at + length (xs ++ d ∷ []) = omega (arith, length-append xs (d ∷ [])) in
-    ap₂ (λ p q. p ++ xs ++ q) (take-set-le at b i d (omega arith))
-    (ap (λ k. drop k (set b i d)) (sym e) ∙ ap (drop i) (set_split b i d h) ∙ drop_at (take i b) (d ∷ drop (suc i) b) i front)
-    ∙ sym (append_snoc (take at b ++ xs) d (drop (suc i) b))
-    ∙ ap₂ (λ p k. p ++ drop k b) (append_assoc (take at b) xs (d ∷ [])) far
-
--- three writers one after the other
-pub three_placed : (at : ℕ) (xs ys zs b x y z : List ℕ) (k m n : ℕ) → at + length xs + length ys ≤ length b
-    → length x ≡ length b
-    → x ≡ placed_at at xs b → k ≡ at + length xs → y ≡ placed_at k ys x → m ≡ k + length ys → z ≡ placed_at m zs y
-    → n ≡ m + length zs
-    → (z ≡ placed_at at (xs ++ (ys ++ zs)) b) × (n ≡ at + length (xs ++ (ys ++ zs)))
-three_placed at xs ys zs b x y z k m n room kept e p f q g r =
-    let later = then_place k ys zs x y z m n (omega arith) f q g r in
-    then_place at xs (ys ++ zs) b x z k n (omega arith) e p later.0 later.1
 
 -- where nothing is left to place, all is placed
 pub place_end : (at : ℕ) (rest b goal : List ℕ) → rest ≡ [] → placed_at at rest b ≡ goal → b ≡ goal
@@ -87,18 +56,6 @@ pub place_turn : {A : Type 0} (write : List A → List ℕ) (one : A → List �
 place_turn write one first at i next xs d b x goal left more room put behind =
     let here = ap write (drop-cons xs i d more) ∙ first (get_or xs i d) (drop (suc i) xs) in
     rw add-one (place_rest at (one (get_or xs i d)) (write (drop (suc i) xs)) b x goal next room put behind (ap (λ l. placed_at at l b) (sym here) ∙ left))
-
--- one turn of copying a text, byte by byte
-pub copy_turn : (at i : ℕ) (s b goal : List ℕ) → placed_at (at + i) (drop i s) b ≡ goal → i < length s
-    → at + i < length b
-    → placed_at (at + (i + 1)) (drop (i + 1) s) (set b (at + i) (get_or s i 0)) ≡ goal
-copy_turn at i s b goal left more room =
-    place_turn (λ s. s) (λ x. x ∷ []) (λ x xs. refl) (at + i) i (at + (i + 1)) s 0 b _ goal left more (omega arith)
-    (place_byte (at + i) (get_or s i 0) b room) (omega arith)
-
--- where all of it is copied, nothing is left
-pub copy_all : (at i : ℕ) (s b goal : List ℕ) → placed_at (at + i) (drop i s) b ≡ goal → length s ≤ i → b ≡ goal
-copy_all at i s b goal left h = place_end (at + i) (drop i s) b goal (drop_of_length-le s h) left
 
 -- one turn of writing the bytes of a number: those above the lowest are left
 pub bytes_turn : (at next left n v : ℕ) (b goal : List ℕ) → placed_at at (bytes_of left v) b ≡ goal → left ≡ suc n

@@ -1,4 +1,5 @@
 // Little-endian words in byte buffers, below the three layers.
+// A word at a byte offset is what this crate gives, so that an offset stands beside each buffer.
 
 #![tactic(auto)]
 
@@ -49,7 +50,17 @@ impl Word for u64 {
     }
 }
 
-// A 32-bit word as a signed number.
+// A 32-bit word that says how many bytes or entries there are, or where they begin. It fits, so that the kit's TryFrom
+// would test it for nothing.
+pub fn size(b: &[u8], at: usize) -> usize
+    requires { at + 4 ≤ length b.now }
+    ensures value { result ≡ number_at 4 b.now at }
+    ensures upper_bound { result < 2 ^ 32 }
+{
+    u32::number(b, at) as usize
+}
+
+// A 32-bit word as a signed number. The low 32 bits, which `as` keeps, are the word.
 pub fn signed(w: u64) -> i64
     requires { w < 2 ^ 32 }
     ensures value { result ≡ signed_of w }
@@ -58,7 +69,8 @@ pub fn signed(w: u64) -> i64
     i64::from((w as u32).cast_signed())
 }
 
-// Writes the low bytes of a number, as many as a word has, at a byte offset.
+// Writes the low bytes of a number, as many as a word has, at a byte offset: the bytes of both widths in one loop,
+// where to_le_bytes has eight for either. A remainder of 256 is a byte, so that `as` keeps it.
 pub fn put<W: Word>(b: &mut [u8], at: usize, v: u64)
     requires { at + W.BYTES ≤ length b.old }
     ensures { b.new ≡ placed_at at (bytes_of W.BYTES v) b.old }

@@ -30,7 +30,7 @@ pub enum Refusal {
 }
 
 impl Refusal {
-    // Its number in the published list.
+    // Its number in the published list. An enum's number is read by `as`.
     pub fn number(self) -> u32
         ensures { result ≡ ground_number self }
     {

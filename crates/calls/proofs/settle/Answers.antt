@@ -8,6 +8,7 @@ returns c =
     let start = c.args in
     let given = ap (λ f. settling start.ledger.now f start.res.now) c.file.ensures in
     record {
+      answer = c.from.ensures ∙ c.npa_settle.ensures.answer ∙ ap (λ a. a.refusal) given;
       ledger_after = c.npa_settle.ensures.ledger_bytes ∙ ap (λ a. a.ledger) given;
       res_after = c.npa_settle.ensures.result_bytes ∙ ap (λ a. a.result) given;
     }

@@ -1,37 +1,13 @@
--- `event::next_file` meets its contract. What is left is too short for a length,
--- or for the file that the length announces, or is a whole file first.
-use mathlib.Core.Path.{refl}
-use native.Mathlib.Omega.{arith}
-use Rattle.words.proofs.Ints.{never}
-use Rattle.event.specs.Code.{file_at}
-use Rattle.event.proofs.FileLaws.{cut_length, cut_file, whole_file}
+-- `event::next_file` meets its contract: what is left is too short for a length, or for the file that it announces,
+-- or has that file first.
+use Rattle.event.proofs.FileLaws.{cut_length, file_due}
 use Rattle.event.proofs.next_file.Goals as goal
 
-pub returns-then-left-lt-LENGTH_BYTES : goal.returns-then-left-lt-LENGTH_BYTES
-returns-then-left-lt-LENGTH_BYTES c = record {
-  next = cut_length _ _ c.requires (omega arith);
-  after_length = λ z. never z;
-  ends_later = omega arith;
-  within = omega arith;
-}
-
-pub returns-then-left-bytes : goal.returns-then-left-bytes
-returns-then-left-bytes c =
-    record {
-      next = cut_file _ _ c.requires c.number-bytes.result (omega arith) c.number-bytes.ensures.value
-          c.number-bytes.ensures.upper_bound (omega arith);
-      after_length = λ z. never z;
-      ends_later = omega arith;
-      within = omega arith;
-    }
+pub returns-in_default : goal.returns-in_default
+returns-in_default c = cut_length _ c.requires c.in_default.ensures.cases
 
 pub returns : goal.returns
-unfolding file_at
 returns c =
-    record {
-      next = whole_file _ _ c.requires c.number-bytes.result (omega arith) c.number-bytes.ensures.value
-          c.number-bytes.ensures.upper_bound _ _ refl refl (omega arith);
-      after_length = λ z. omega arith;
-      ends_later = omega arith;
-      within = omega arith;
-    }
+    let n = c.size.ensures in
+    rw c.ok_or.ensures.value
+    (file_due _ _ _ c.in-Some.ensures.cases _ n.value n.upper_bound _ c.split_at_checked-2.ensures.cases)

@@ -12,5 +12,6 @@ returns-then-count-lt-COUNT_BYTES c =
 
 pub returns : goal.returns
 returns c =
-    let both = long_answer _ _ _ _ _ _ _ _ (omega arith) c.settle_files-settled.ensures (c.put.ensures ∙ sym (word_placed _ _ _)) in
+    let counted = c.put.ensures ∙ sym (word_placed _ _ _) in
+    let both = long_answer _ _ _ _ _ _ _ _ _ (omega arith) c.settle_files-outcome.ensures counted in
     record { answer = both.0; ledger_bytes = both.1.0; result_bytes = both.1.1.0; count_bytes = both.1.1.1 }

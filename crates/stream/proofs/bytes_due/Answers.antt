@@ -11,12 +11,12 @@ returns-then-head-lt-LENGTH_BYTES c =
 pub returns-then-most-n : goal.returns-then-most-n
 returns-then-most-n c =
     record {
-      value = sym (due_over _ _ (omega arith) _ c.number-n.ensures.value (omega arith));
+      value = sym (due_over _ _ (omega arith) _ c.size-n.ensures.value (omega arith));
       upper_bound = omega arith;
     }
 
 pub returns : goal.returns
 returns c = record {
-  value = sym (due_within _ _ (omega arith) _ c.number-n.ensures.value (omega arith));
+  value = sym (due_within _ _ (omega arith) _ c.size-n.ensures.value (omega arith));
   upper_bound = omega arith;
 }

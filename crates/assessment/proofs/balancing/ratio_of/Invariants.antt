@@ -3,4 +3,5 @@ use Rattle.assessment.proofs.SumLaws.{Summed}
 use Rattle.assessment.proofs.balancing.ratio_of.Given as goal
 
 abbrev pub invariant-loop-i : goal.invariant-loop-i
-invariant-loop-i l = Summed l.file l.h l.i l.numerator.0 l.denominator.0
+invariant-loop-i l =
+    let file = l.scanned.file in Summed file.bytes.now file.header l.i l.numerator.0 l.denominator.0

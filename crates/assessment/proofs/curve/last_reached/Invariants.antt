@@ -3,4 +3,4 @@ use Rattle.assessment.proofs.CurveLaws.{NoneFrom}
 use Rattle.assessment.proofs.curve.last_reached.Given as goal
 
 abbrev pub invariant-loop-i : goal.invariant-loop-i
-invariant-loop-i l = NoneFrom l.lmp l.n l.points l.i
+invariant-loop-i l = NoneFrom l.lmp l.curve.count l.curve.points.now l.i

@@ -24,39 +24,36 @@ pub returns-then-a-last : goal.returns-then-a-last
 unfolding account_in
 returns-then-a-last c =
     sym
-    (id_low c.loop-j.invariant (omega arith) _ c.at-a.ensures c.if-a-last.true)
+    (id_low c.loop-j.invariant (omega arith) _ c.account_at-a.ensures c.if-a-last.true)
 
 pub returns-then-account_outside : goal.returns-then-account_outside
 unfolding account_in
 returns-then-account_outside c =
-    let outside = sym c.account_outside.ensures ∙ c.if-account_outside.true in
     sym
-    (account_refused c.loop-j.invariant (omega arith) _ c.at-a.ensures outside)
+    (account_refused c.loop-j.invariant (omega arith) _ c.account_at-a.ensures c.account_outside.ensures
+    c.if-account_outside.true)
 
 pub plus-charged-requires : goal.plus-charged-requires
 unfolding account_in
 plus-charged-requires c =
-    let within = sym c.account_outside.ensures ∙ c.if-account_outside.false in
     let most =
-    charged_most c.loop-j.invariant (omega arith) _ c.at-a.ensures
-    c.requires.terms_inside within in
+    charged_most c.loop-j.invariant (omega arith) _ c.account_at-a.ensures c.requires.terms_inside
+    c.account_outside.ensures c.if-account_outside.false in
     omega (arith, most, c.loop-j.invariant.charged_low)
 
 pub plus-credited-requires : goal.plus-credited-requires
 unfolding account_in
 plus-credited-requires c =
-    let within = sym c.account_outside.ensures ∙ c.if-account_outside.false in
     let most =
-    credited_most c.loop-j.invariant (omega arith) _ c.at-a.ensures
-    c.requires.terms_inside within in
+    credited_most c.loop-j.invariant (omega arith) _ c.account_at-a.ensures c.requires.terms_inside
+    c.account_outside.ensures c.if-account_outside.false in
     omega (arith, most, c.loop-j.invariant.credited_low)
 
 pub loop-j-preserved : goal.loop-j-preserved
 unfolding account_in
 loop-j-preserved c =
-    let within = sym c.account_outside.ensures ∙ c.if-account_outside.false in
-    passing_turn c.loop-j.invariant (omega arith) _ c.at-a.ensures c.requires.terms_inside within
-    (omega arith) _ _ c.plus-charged.ensures c.plus-credited.ensures
+    passing_turn c.loop-j.invariant (omega arith) _ c.account_at-a.ensures c.requires.terms_inside
+    c.account_outside.ensures c.if-account_outside.false (omega arith) _ _ c.plus-charged.ensures c.plus-credited.ensures
 
 pub returns : goal.returns
 returns c =

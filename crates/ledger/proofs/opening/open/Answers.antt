@@ -1,25 +1,23 @@
 -- `ledger::opening::open` meets its contract. A refusal writes nothing; otherwise the ledger is written.
-use mathlib.Core.Path.{sym, ◌∙◌}
-use Rattle.ledger.proofs.Sound.{block_accepted}
-use Rattle.ledger.proofs.OpeningLaws.{opening_refused, opening_done, accepted_listed, accepted_room}
+use mathlib.Core.Path.{sym}
+use Rattle.std.proofs.lemmas.Result.{err_from_is_err_and}
+use Rattle.words.proofs.Refusals.{ground_some}
+use Rattle.ledger.proofs.OpeningLaws.{opening_refused, opening_done, accepted_room}
 use Rattle.ledger.proofs.opening.open.Goals as goal
 
-pub returns-then-ground-ne0 : goal.returns-then-ground-ne0
-returns-then-ground-ne0 c =
-    let both = opening_refused _ _ _ c.opening_ground-ground.ensures c.if-ground-ne0.true in
-    record { answer = both.0; buffer = both.1 }
-
-pub block_of-requires : goal.block_of-requires
-block_of-requires c = (block_accepted _ _ (sym c.opening_ground-ground.ensures ∙ c.if-ground-ne0.false)).header
+pub returns-in_err-listed : goal.returns-in_err-listed
+returns-in_err-listed c =
+    let p = err_from_is_err_and c.from_residual.result c.from_residual.ensures.1 in
+    let both = opening_refused _ _ _ c.in_err-listed.ensures.answer (ground_some c.in_err-listed.field-0.0) in
+    rw (p.1, p.2) (record { answer = both.0; buffer = both.1 })
 
 pub write_opened-requires : goal.write_opened-requires
 write_opened-requires c =
-    let e = sym c.opening_ground-ground.ensures ∙ c.if-ground-ne0.false in
-    let says = c.block_of.ensures in
-    record { listed = accepted_listed _ _ _ e says; ids_in_bounds = accepted_room _ _ _ e says }
+    let accepting = c.in_ok-listed.ensures in
+    accepted_room _ _ _ (sym accepting.answer) (rw accepting.bytes at c.in_ok-listed.listed.listed.read.says)
 
 pub returns : goal.returns
 returns c =
-    let both = opening_done _ _ _ (sym c.opening_ground-ground.ensures ∙ c.if-ground-ne0.false)
-    c.write_opened.ensures in
+    let accepted = c.in_ok-listed.ensures in
+    let both = opening_done _ _ _ (sym accepted.answer) (rw accepted.bytes at c.write_opened.ensures) in
     record { answer = both.0; buffer = both.1 }

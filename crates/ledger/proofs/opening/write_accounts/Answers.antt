@@ -13,21 +13,17 @@ pub loop-i-init : goal.loop-i-init
 unfolding ledger_bytes
 loop-i-init c = (search rules, refl, refl)
 
-pub write_account-requires : goal.write_account-requires
-unfolding ledger_bytes
-write_account-requires c = search rules
-
 pub loop-i-preserved : goal.loop-i-preserved
 loop-i-preserved c =
-    let is = (block_of c.args.block.now).ids in
-    let n = length_listed c.requires.listed in
+    let is = (block_of c.args.listed.now.bytes.now).ids in
+    let n = length_listed c.args.listed.now.listed in
     let turn =
     new_turn is c.loop-i.ledger _ _ c.loop-i.i _ _ (omega (arith, n))
-    c.id_at.ensures c.empty.ensures
+    c.id.ensures c.empty.ensures
     (unfold ledger_bytes in omega arith) c.write_account.ensures c.loop-i.invariant.1 in
     (search rules, turn, search rules)
 
 pub returns : goal.returns
 returns c =
-    new_done (block_of c.args.block.now).ids c.loop-i.ledger _ c.loop-i.i
-    (omega (arith, length_listed c.requires.listed)) c.loop-i.invariant.1
+    new_done (block_of c.args.listed.now.bytes.now).ids c.loop-i.ledger _ c.loop-i.i
+    (omega (arith, length_listed c.args.listed.now.listed)) c.loop-i.invariant.1

@@ -11,11 +11,11 @@ use Rattle.ledger.proofs.opening.write_accounts.Given as goal
 
 abbrev pub invariant-loop-i : goal.invariant-loop-i
 invariant-loop-i l =
-    let ids = (block_of l.block).ids in
-    (l.i ≤ l.b.ids)
+    let ids = (block_of l.listed.bytes.now).ids in
+    (l.i ≤ l.listed.block.ids)
     × (written_at (ledger_bytes l.i) (new_words (drop l.i ids)) l.ledger
     ≡ written_at ledger_header_bytes (new_words ids) l.initial.ledger)
     × (length l.ledger ≡ length l.initial.ledger)
 
 abbrev pub decreases-loop-i : goal.decreases-loop-i
-decreases-loop-i l = l.b.ids - l.i
+decreases-loop-i l = l.listed.block.ids - l.i

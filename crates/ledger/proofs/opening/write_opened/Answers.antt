@@ -13,5 +13,5 @@ write_standing-requires c = omega arith
 pub returns : goal.returns
 unfolding ledger_bytes standing_in
 returns c =
-    opened_written _ _ _ _ _ c.requires.listed (omega arith) c.write_standing.ensures
+    opened_written _ _ _ _ _ c.args.listed.now.listed (omega arith) c.write_standing.ensures
     c.write_accounts.ensures

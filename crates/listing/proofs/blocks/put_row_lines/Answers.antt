@@ -17,11 +17,11 @@ use Rattle.listing.proofs.blocks.put_row_lines.Goals as goal
 pub loop-i-init : goal.loop-i-init
 unfolding header_in
 loop-i-init g c =
-    let f = c.args.file.now in
+    let f = c.args.file.now.bytes.now in
     let r = c.args.res.now in
-    let start = ap bytes_of_lines (sym (lines_start f r c.args.h.interval)) in
+    let start = ap bytes_of_lines (sym (lines_start f r c.args.file.now.header.interval)) in
     let said = ap (λ h. bytes_of_lines (row_lines h.interval (rows_of f) (drop result_header_bytes r)))
-    c.requires.tabled.read.says in
+    c.args.file.now.tabled.read.says in
     record { left = ap (λ l. c.args.out.now.items ++ l) (start ∙ said); room = omega arith }
 
 pub row_part-requires-clause-i_in_bounds : goal.row_part-requires-clause-i_in_bounds
@@ -37,19 +37,20 @@ put_row_line-requires g c =
 pub loop-i-preserved : goal.loop-i-preserved
 unfolding row_in
 loop-i-preserved g c =
-    let count = row_count_lem c.requires.tabled.read in
+    let count = row_count_lem c.args.file.now.tabled.read in
     record {
       left = put_rest _ _ _ _ _ _ c.put_row_line.ensures.puts
-          (bytes_turn c.args.file.now c.args.res.now c.args.h.interval c.loop-i.i (row_in c.row_at-row.result) _
-          (omega (arith, count)) c.row_at-row.ensures c.row_part.ensures)
+          (bytes_turn c.args.file.now.bytes.now c.args.res.now c.args.file.now.header.interval c.loop-i.i
+          (row_in c.row-row.result) _ (omega (arith, count)) c.row-row.ensures.words c.row_part.ensures)
           c.loop-i.invariant.left;
       room = omega arith;
     }
 
 pub returns : goal.returns
 returns g c =
-    let count = row_count_lem c.requires.tabled.read in
-    let none = lines_end c.args.file.now c.args.res.now c.args.h.interval c.loop-i.i (omega (arith, count)) in
+    let count = row_count_lem c.args.file.now.tabled.read in
+    let file = c.args.file.now in
+    let none = lines_end file.bytes.now c.args.res.now file.header.interval c.loop-i.i (omega (arith, count)) in
     record {
       puts = sym (append-nil c.loop-i.out.items) ∙ ap (λ l. c.loop-i.out.items ++ l) (sym none)
           ∙ c.loop-i.invariant.left;

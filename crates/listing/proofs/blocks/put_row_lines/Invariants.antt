@@ -11,7 +11,7 @@ use Rattle.listing.proofs.blocks.put_row_lines.Given as goal
 
 abbrev pub invariant-loop-i : goal.invariant-loop-i
 invariant-loop-i g l = record {
-  left : l.out.items ++ lines_left l.file l.res l.h.interval l.i
-      ≡ l.initial.out.items ++ bytes_of_lines (file_lines l.file l.res);
+  left : l.out.items ++ lines_left l.file.bytes.now l.res l.file.header.interval l.i
+      ≡ l.initial.out.items ++ bytes_of_lines (file_lines l.file.bytes.now l.res);
   room : array_vec_len l.out ≤ array_vec_len l.initial.out + row_room * l.i;
 }

@@ -11,15 +11,18 @@ loop-i-init c = place_start _ _
 pub returns-then-row-id : goal.returns-then-row-id
 unfolding row_in
 returns-then-row-id c =
-    let here = place_here _ _ c.requires.read _ c.loop-i-test.true c.row_at-row.ensures c.if-row-id.true in
+    let read = c.args.file.now.tabled.read in
+    let here = place_here _ _ read _ c.loop-i-test.true c.row-row.ensures.words c.if-row-id.true in
     (sym (c.loop-i.invariant ∙ here), c.loop-i-test.true)
 
 pub loop-i-preserved : goal.loop-i-preserved
 unfolding row_in
 loop-i-preserved c =
-    c.loop-i.invariant ∙ place_next _ _ c.requires.read _ c.loop-i-test.true c.row_at-row.ensures c.if-row-id.false
+    let read = c.args.file.now.tabled.read in
+    c.loop-i.invariant ∙ place_next _ _ read _ c.loop-i-test.true c.row-row.ensures.words c.if-row-id.false
 
 pub returns : goal.returns
 returns c =
-    let past = place_end c.args.file.now c.args.id c.requires.read c.loop-i.i c.loop-i-test.false in
+    let file = c.args.file.now in
+    let past = place_end file.bytes.now c.args.id file.tabled.read c.loop-i.i c.loop-i-test.false in
     omega (arith, c.loop-i.invariant ∙ past)

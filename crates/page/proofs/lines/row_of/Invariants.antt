@@ -6,4 +6,4 @@ use Rattle.page.proofs.RowLaws.{row_ids, place_from}
 use Rattle.page.proofs.lines.row_of.Given as goal
 
 abbrev pub invariant-loop-i : goal.invariant-loop-i
-invariant-loop-i l = before l.id (row_ids (rows_of l.file)) ≡ place_from l.file l.id l.i
+invariant-loop-i l = before l.id (row_ids (rows_of l.file.bytes.now)) ≡ place_from l.file.bytes.now l.id l.i

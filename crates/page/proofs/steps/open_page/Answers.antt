@@ -38,4 +38,5 @@ pub returns-clause-step_taken : goal.returns-clause-step_taken
 returns-clause-step_taken g c =
     foreign_paged _ _ _ _ _ _ c.list_opening-opened.ensures c.if-not-opened.false
     (λ i. omega (arith, c.type_inv.block i))
-    _ _ (rw c.held.ensures at c.has_account.ensures) c.if-has_account.false _ c.put_refused.ensures.puts
+    _ _ (rw c.held.ensures at c.has_account.ensures) c.if-has_account.false _
+    (rw (c.from.ensures, c.number.ensures) at c.put_refused.ensures.puts)

@@ -14,6 +14,6 @@ returns c =
         days = c.number-2.ensures.value x;
         year = c.year_named.ensures x;
       };
-      id_count = c.number-4.ensures.value x;
-      ids_offset = c.number-5.ensures.value x;
+      id_count = c.size.ensures.value x;
+      ids_offset = c.size-2.ensures.value x;
     }

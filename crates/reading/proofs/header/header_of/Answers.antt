@@ -35,10 +35,10 @@ returns c =
       days = c.number-3.ensures.value x;
       region_wide = c.number-4.ensures.value x;
       imports = sixth x;
-      row_count = c.number-6.ensures.value x;
-      rows_offset = c.number-7.ensures.value x;
-      point_count = c.number-8.ensures.value x;
-      points_offset = c.number-9.ensures.value x;
+      row_count = c.size.ensures.value x;
+      rows_offset = c.size-2.ensures.value x;
+      point_count = c.size-3.ensures.value x;
+      points_offset = c.size-4.ensures.value x;
       schedule_count = tenth x;
       schedules_offset = eleventh x;
     }

@@ -34,7 +34,7 @@ returns-clause-words c =
       minimum = c.number-10.ensures.value x;
       online = c.number-11.ensures.value x;
       lmp = twelfth x;
-      first = c.number-13.ensures.value x;
-      count = c.number-14.ensures.value x;
+      first = c.size.ensures.value x;
+      count = c.size-2.ensures.value x;
       dispatched = c.schedules_word.ensures x;
     }

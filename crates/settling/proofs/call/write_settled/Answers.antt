@@ -46,7 +46,7 @@ write_summary-requires c =
     omega (arith, long, pre.rows_in_bounds, c.post_rows-credits.auto)
 
 pub overflow_add-standing : goal.overflow_add-standing
-overflow_add-standing c = record { fits = next_fits c.requires.passed c.args.interval.days_few }
+overflow_add-standing c = record { fits = next_fits c.requires.passed c.requires.days_few }
 
 pub write_standing-requires : goal.write_standing-requires
 write_standing-requires c = omega (arith, header_room c.requires.passed, c.post_rows-credits.auto)

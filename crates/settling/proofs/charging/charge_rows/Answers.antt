@@ -1,5 +1,8 @@
 -- `settling::charging::charge_rows`: what is left to add and to write is that of the rows from i on, each found by the
 -- walk from its account on.
+use Prim.Native.Nat.{◌<◌}
+use native.Mathlib.Omega.{arith}
+use Rattle.ledger.specs.Ledger.{ledger_bytes}
 use Rattle.settling.proofs.Turns.{accounts_are}
 use Rattle.settling.proofs.ChargingLaws.{turns, pass_ends}
 use borrow.Author.Rules.{rules}
@@ -16,11 +19,11 @@ invariant_of-accounts c =
 pub to-walk-requires : goal.to-walk-requires
 to-walk-requires c = record { account_within = search rules; budget_suffices = search turns }
 
-pub row_figures-f-requires-clause-sound : goal.row_figures-f-requires-clause-sound
-row_figures-f-requires-clause-sound c = search turns
-
-pub at-requires : goal.at-requires
-at-requires c = search turns
+pub account_at-requires : goal.account_at-requires
+unfolding ledger_bytes
+account_at-requires c =
+    let below : c.to-walk.result.account < c.args.interval.standing.accounts = search turns in
+    omega (arith, below, c.requires.ledger_read.room)
 
 pub charge-charge-requires : goal.charge-charge-requires
 charge-charge-requires c = record {

@@ -5,4 +5,4 @@ use Rattle.settling.proofs.charging.charge_rows.Given as goal
 
 abbrev pub invariant-loop-i : goal.invariant-loop-i
 invariant-loop-i l =
-    Pass l.ledger l.interval.file.now l.initial.res l.res l.charges.0 l.bonus.0 l.i l.walk.account l.walk.budget
+    Pass l.ledger l.interval.scanned.file.bytes.now l.initial.res l.res l.charges.0 l.bonus.0 l.i l.walk.account l.walk.budget

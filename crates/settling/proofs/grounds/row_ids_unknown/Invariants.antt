@@ -9,4 +9,5 @@ use Rattle.settling.proofs.grounds.row_ids_unknown.Given as goal
 abbrev pub invariant-loop-i : goal.invariant-loop-i
 invariant-loop-i l =
     let b = l.accounts.bytes.now in
-    Seeking b l.file (row_ids_unknown (ledger_of b) (rows_of l.file)) l.i l.walk.account l.walk.budget
+    let f = l.file.bytes.now in
+    Seeking b f (row_ids_unknown (ledger_of b) (rows_of f)) l.i l.walk.account l.walk.budget

@@ -21,8 +21,8 @@ invariant_of-accounts c =
 pub to-walk-requires : goal.to-walk-requires
 to-walk-requires c = record { account_within = search turns; budget_suffices = search turns }
 
-pub at-requires : goal.at-requires
-at-requires c = search turns
+pub account_at-requires : goal.account_at-requires
+account_at-requires c = search turns
 
 pub balance_at-balance-requires : goal.balance_at-balance-requires
 balance_at-balance-requires c = record { row_few = search rules; row_in_bounds = search turns }

@@ -5,4 +5,4 @@ use Rattle.settling.proofs.posting.post_rows.Given as goal
 
 abbrev pub invariant-loop-i : goal.invariant-loop-i
 invariant-loop-i l =
-    Pass l.initial.ledger l.interval.file.now l.initial.res l.ledger l.res l.credits.0 l.i l.walk.account l.walk.budget
+    Pass l.initial.ledger l.scanned.file.bytes.now l.initial.res l.ledger l.res l.credits.0 l.i l.walk.account l.walk.budget

@@ -2,9 +2,10 @@
 use mathlib.Core.Path.{ap, ◌∙◌}
 use mathlib.Core.List.{◌++◌}
 use native.Mathlib.Omega.{arith}
-use borrow.Author.Rules.{rules}
 use lib.ListN.{length}
+use Rattle.stream.specs.Code.{found_as}
 use Rattle.listing.specs.Lines.{Line, bytes_of_line}
+use Rattle.listing.specs.Code.{stop_lines}
 use Rattle.page.specs.Page.{year_of}
 use Rattle.page.specs.Code.{state_in}
 use Rattle.page.proofs.YearLaws.{year_holds}
@@ -19,13 +20,14 @@ pub put_year-requires : goal.put_year-requires
 put_year-requires c = omega (arith, ap length c.requires.empty)
 
 pub returns-then-number-ne0 : goal.returns-then-number-ne0
-unfolding state_in
+unfolding state_in found_as stop_lines
 returns-then-number-ne0 c =
     let says = ap (λ p. c.put_stop.new.out.items ++ bytes_of_line (Line.year (year_of p.id p.state.shortfall p.state.bonus p.state.ledger)))
     c.self.view_is in
-    stopped_later _ _ _ _ _ _ c.requires.stopped c.if-number-ne0.true c.requires.empty c.put_stop.ensures.puts
+    stopped_later _ _ _ _ _ _ c.if-number-ne0.true c.requires.empty c.put_stop.ensures.puts
     (rw c.held.ensures at c.put_year.ensures.puts ∙ says)
 
 pub returns-else-number-ne0 : goal.returns-else-number-ne0
+unfolding found_as stop_lines
 returns-else-number-ne0 c =
-    stopped_first _ _ _ _ _ c.requires.stopped c.if-number-ne0.false c.requires.empty c.put_stop.ensures.puts
+    stopped_first _ _ _ _ _ c.if-number-ne0.false c.requires.empty c.put_stop.ensures.puts

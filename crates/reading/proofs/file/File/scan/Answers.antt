@@ -59,29 +59,24 @@ pub schedules_outside-requires-clause-naming : goal.schedules_outside-requires-c
 schedules_outside-requires-clause-naming c = c.rows_naming-m-end.ensures.naming (omega arith)
 
 pub loop-m-preserved : goal.loop-m-preserved
-loop-m-preserved c =
-    let file = c.args.self.now in
-    record {
-      in_range = c.loop-m.invariant.in_range;
-      schedules = row_turn file.tabled.read (schedules_outside file.bytes.now) c.loop-m.m c.row-in-loop-m.ensures.words
-          c.loop-m.invariant.schedules (omega arith) (sym c.if-schedules_outside.ensures);
-    }
+loop-m-preserved c = record {
+  in_range = c.loop-m.invariant.in_range;
+  schedules = row_turn c.args.self.now.tabled.read (schedules_outside c.args.self.now.bytes.now) c.loop-m.m
+      c.row-in-loop-m.ensures.words c.loop-m.invariant.schedules (omega arith) (sym c.if-schedules_outside.ensures);
+}
 
 pub loop-n-init : goal.loop-n-init
-loop-n-init c =
-    let file = c.args.self.now in
-    record {
-      in_range = c.loop-m.invariant.in_range;
-      schedules = schedules_pass file.tabled.read c.loop-m.m c.rows_naming-m-end.ensures.value
-          c.loop-m.invariant.schedules (omega arith);
-      points = ap (any (points_outside file.bytes.now)) (words_start file.bytes.now);
-    }
+loop-n-init c = record {
+  in_range = c.loop-m.invariant.in_range;
+  schedules = schedules_pass c.args.self.now.tabled.read c.loop-m.m c.rows_naming-m-end.ensures.value
+      c.loop-m.invariant.schedules (omega arith);
+  points = ap (any (points_outside c.args.self.now.bytes.now)) (words_start c.args.self.now.bytes.now);
+}
 
 pub loop-k-init : goal.loop-k-init
 unfolding points_outside
 loop-k-init c =
-    let file = c.args.self.now in
-    row_turn file.tabled.read (points_outside file.bytes.now) c.loop-n.n c.row-row.ensures.words
+    row_turn c.args.self.now.tabled.read (points_outside c.args.self.now.bytes.now) c.loop-n.n c.row-row.ensures.words
     c.loop-n.invariant.points (omega arith) refl
 
 pub schedule-s-requires : goal.schedule-s-requires
@@ -124,11 +119,10 @@ returns-then-row_outside c =
 
 pub returns-then-schedules_outside : goal.returns-then-schedules_outside
 returns-then-schedules_outside c =
-    let file = c.args.self.now in
     sym
-    (schedules_fail file.bytes.now c.loop-m.invariant.in_range
-    (row_turn file.tabled.read (schedules_outside file.bytes.now) c.loop-m.m c.row-in-loop-m.ensures.words
-    c.loop-m.invariant.schedules (omega arith) (sym c.if-schedules_outside.ensures)))
+    (schedules_fail c.args.self.now.bytes.now c.loop-m.invariant.in_range
+    (row_turn c.args.self.now.tabled.read (schedules_outside c.args.self.now.bytes.now) c.loop-m.m
+    c.row-in-loop-m.ensures.words c.loop-m.invariant.schedules (omega arith) (sym c.if-schedules_outside.ensures)))
 
 pub returns-then-curve_misplaced : goal.returns-then-curve_misplaced
 returns-then-curve_misplaced c =
@@ -145,7 +139,7 @@ returns-then-point_refused c =
 
 pub returns-after-loop-n : goal.returns-after-loop-n
 returns-after-loop-n c =
-    let file = c.args.self.now in
     sym
-    (all_pass file.bytes.now c.loop-n.invariant.in_range c.loop-n.invariant.schedules
-    (rows_pass file.tabled.read (points_outside file.bytes.now) c.loop-n.n c.loop-n.invariant.points (omega arith)))
+    (all_pass c.args.self.now.bytes.now c.loop-n.invariant.in_range c.loop-n.invariant.schedules
+    (rows_pass c.args.self.now.tabled.read (points_outside c.args.self.now.bytes.now) c.loop-n.n
+    c.loop-n.invariant.points (omega arith)))

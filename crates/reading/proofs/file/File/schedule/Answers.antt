@@ -29,32 +29,29 @@ in_table {f} {h} read named w lie k below =
 pub overflow_add-row : goal.overflow_add-row
 unfolding row_in
 overflow_add-row c =
-    let file = c.args.self.now in
-    let below = in_table file.tabled.read c.in-Schedules.ensures (row_in c.args.row) c.requires.within_table c.args.k
-    c.requires.k_lt_count in
+    let below = in_table c.args.self.now.tabled.read c.in-Schedules.ensures (row_in c.args.row)
+    c.requires.within_table c.args.k c.requires.k_lt_count in
     omega (arith, below)
 
 pub table_schedule-requires : goal.table_schedule-requires
 unfolding row_in
 table_schedule-requires c =
-    let file = c.args.self.now in
-    in_table file.tabled.read c.in-Schedules.ensures (row_in c.args.row) c.requires.within_table c.args.k
-    c.requires.k_lt_count
+    in_table c.args.self.now.tabled.read c.in-Schedules.ensures (row_in c.args.row) c.requires.within_table
+    c.args.k c.requires.k_lt_count
 
 pub returns-in-Curves-clause-value : goal.returns-in-Curves-clause-value
 unfolding row_in schedule_in
 returns-in-Curves-clause-value c =
-    let file = c.args.self.now in
-    let one = sym (format_said file.tabled.read) ∙ curves_said c.in-Curves.ensures in
-    sym (at_curves file.bytes.now (row_in c.args.row) one c.args.k c.requires.k_lt_count)
+    let one = sym (format_said c.args.self.now.tabled.read) ∙ curves_said c.in-Curves.ensures in
+    sym (at_curves c.args.self.now.bytes.now (row_in c.args.row) one c.args.k c.requires.k_lt_count)
 
 pub returns-in-Schedules-clause-value : goal.returns-in-Schedules-clause-value
 unfolding header_in row_in
 returns-in-Schedules-clause-value c =
-    let file = c.args.self.now in
     let w = row_in c.args.row in
-    let two = other_said file.tabled.read (schedules_said c.in-Schedules.ensures) in
+    let two = other_said c.args.self.now.tabled.read (schedules_said c.in-Schedules.ensures) in
     c.table_schedule.ensures.words
-    ∙ ap (λ h. schedule_words (drop (h.schedules_offset + schedule_bytes * (w.first + c.args.k)) file.bytes.now))
-    file.tabled.read.says
-    ∙ sym (at_table file.bytes.now w two c.args.k c.requires.k_lt_count)
+    ∙ ap
+    (λ h. schedule_words (drop (h.schedules_offset + schedule_bytes * (w.first + c.args.k)) c.args.self.now.bytes.now))
+    c.args.self.now.tabled.read.says
+    ∙ sym (at_table c.args.self.now.bytes.now w two c.args.k c.requires.k_lt_count)

@@ -13,18 +13,17 @@ loop-i-init c = refl
 
 pub returns-then-id-last : goal.returns-then-id-last
 returns-then-id-last c =
-    let is = (block_of c.args.self.now.bytes.now).ids in
-    let next = next_at is c.loop-i.i (omega (arith, length_listed c.args.self.now.listed)) c.id-id.ensures in
-    sym (order_broken is c.loop-i.last c.loop-i.invariant next (omega arith))
+    let next = next_at (block_of c.args.self.now.bytes.now).ids c.loop-i.i
+    (omega (arith, length_listed c.args.self.now.listed)) c.id-id.ensures in
+    sym (order_broken _ c.loop-i.last c.loop-i.invariant next (omega arith))
 
 pub loop-i-preserved : goal.loop-i-preserved
 loop-i-preserved c =
-    let is = (block_of c.args.self.now.bytes.now).ids in
-    let next = next_at is c.loop-i.i (omega (arith, length_listed c.args.self.now.listed)) c.id-id.ensures in
-    order_goes_on is c.loop-i.last c.loop-i.invariant next (omega arith)
+    let next = next_at (block_of c.args.self.now.bytes.now).ids c.loop-i.i
+    (omega (arith, length_listed c.args.self.now.listed)) c.id-id.ensures in
+    order_goes_on _ c.loop-i.last c.loop-i.invariant next (omega arith)
 
 pub returns : goal.returns
 returns c =
-    let is = (block_of c.args.self.now.bytes.now).ids in
     let n = length_listed c.args.self.now.listed in
-    sym (order_holds is c.loop-i.last c.loop-i.invariant (drop_of_length-le is {i = c.loop-i.i} (omega (arith, n))))
+    sym (order_holds _ c.loop-i.last c.loop-i.invariant (drop_of_length-le _ {i = c.loop-i.i} (omega (arith, n))))

@@ -1,7 +1,7 @@
--- `ledger::layout::Accounts::at` meets its contract. Four words, from where the account begins.
+-- `ledger::layout::account_at` meets its contract. Four words, from where the account begins.
 use Rattle.assessment.specs.Values.{account_in}
 use Rattle.ledger.proofs.LayoutLaws.{account_words_lem}
-use Rattle.ledger.proofs.layout.Accounts.at.Goals as goal
+use Rattle.ledger.proofs.layout.account_at.Goals as goal
 
 pub returns : goal.returns
 unfolding account_in
