@@ -10,9 +10,9 @@ use lib.ListN.{length}
 use lib.IntN.{ℤ, pos, negsuc, nat_abs, ◌+ℤ◌, sub_ℕ}
 use lib.Dec.{ltb}
 use Rattle.words.proofs.Lists.{sum_most}
-use Rattle.reading.specs.Interval.{most_kilowatts, most_imports, most_rows, Header, Point, Row}
+use Rattle.reading.specs.Interval.{most_kilowatts, most_imports, most_rows, Header, Point, Row, Kind, kind_of}
 use Rattle.reading.proofs.Bounds.{HeaderIn, RowIn}
-use Rattle.assessment.specs.Assessment.{most_actual, most_numerator, or_zero, actual, scheduled_by, dispatched_curve, scheduled, available, bonus_cut_by, bonus_cut, if_considered, Ratio, portion, expected, bonus, numerator_share, import_share, numerator, denominator_share, denominator, whole_ratio, printed_ratio, outage, economic_rule, economic, shortfall, RowFigures, row_figures}
+use Rattle.assessment.specs.Assessment.{most_actual, most_numerator, or_zero, actual, scheduled_by, dispatched_curve, scheduled, available, bonus_cut_by, bonus_cut, if_considered, Ratio, portion, expected, bonus_actual_as, bonus, numerator_share_as, numerator_share, import_share, numerator, denominator_share, denominator, whole_ratio, printed_ratio, outage, economic_rule, economic, shortfall, RowFigures, row_figures}
 use Rattle.assessment.specs.Claims.{economic_by_cut, SameEconomic}
 use Rattle.assessment.proofs.Opened.{by_kind}
 use Rattle.assessment.proofs.ScheduleLaws.{economic_one}
@@ -41,10 +41,15 @@ pub expected_le : (q : Ratio) (r : Row) → expected q r ≤ r.committed
 unfolding by_kind
 expected_le q r = grind (arith, portion_le)
 
+-- the kW that a bonus is taken from are at most the actual
+bonus_actual_le : (k : Kind) (r : Row) → bonus_actual_as k r ≤ actual r
+unfolding bonus_actual_as
+bonus_actual_le k r = grind arith
+
 -- a bonus is at most what the actual has above the expected kW
 bonus_le : (r : Row) (e : ℕ) → bonus r e ≤ actual r - e
-unfolding by_kind
-bonus_le r e = grind arith
+unfolding bonus
+bonus_le r e = omega (arith, bonus_actual_le (kind_of r.kind) r)
 
 -- a shortfall is at most what the expected kW have above the actual
 shortfall_le : (r : Row) (e : ℕ) → shortfall r e ≤ e - actual r
@@ -140,10 +145,17 @@ figures_in_lem region_wide q r i =
       bonus = omega (arith, if_le region_wide r (bonus r e), bonus_le r e, actual_le r i);
     }
 
+-- a row of a kind adds at most its actual to the numerator
+share_le : (k : Kind) (r : Row) → numerator_share_as k r ≤ actual r
+unfolding numerator_share_as
+share_le k r = grind (arith, bonus_le r r.committed)
+
 -- a row that ground 13 does not refuse adds at most twice the most kW to the numerator
 pub numerator_share_le : (region_wide : ℕ) (r : Row) → RowIn r → numerator_share region_wide r ≤ most_actual
-unfolding by_kind
-numerator_share_le region_wide r i = grind (arith, actual_le r i)
+unfolding numerator_share
+numerator_share_le region_wide r i =
+    let share = numerator_share_as (kind_of r.kind) r in
+    omega (arith, if_le region_wide r share, share_le (kind_of r.kind) r, actual_le r i)
 
 -- the net imports of a header that ground 9 does not refuse add at most the most imports
 pub import_share_le : (h : Header) → HeaderIn h → import_share h ≤ most_imports

@@ -55,12 +55,12 @@ counted_le on r s = grind arith
 -- the rules, by the schedule that a row was dispatched on
 module _ (r : Row) where
   -- without one there is no curve
-  none_curve : dispatched_on r ≡ [] → dispatched_curve r ≡ []
+  pub none_curve : dispatched_on r ≡ [] → dispatched_curve r ≡ []
   unfolding dispatched_curve first_curve
   none_curve none = ap first_curve none
 
   -- bonus is cut to what is available
-  cut_none : dispatched_on r ≡ [] → available r ≡ bonus_cut r
+  pub cut_none : dispatched_on r ≡ [] → available r ≡ bonus_cut r
   unfolding bonus_cut bonus_cut_by
   cut_none none = ap (λ ps. bonus_cut_by ps r) (sym (none_curve none))
 
@@ -70,12 +70,12 @@ module _ (r : Row) where
   scheduled_none none = ap (λ ps. scheduled_by ps r) (none_curve none)
 
   -- and the economic rule takes them
-  economic_none : dispatched_on r ≡ [] → r.committed ≡ economic_scheduled r
+  pub economic_none : dispatched_on r ≡ [] → r.committed ≡ economic_scheduled r
   unfolding economic_scheduled economic_by
   economic_none none = ap (λ on. economic_by on r) (sym none)
 
   -- with a curve bonus is cut to the scheduled kW
-  cut_some : 0 < length (dispatched_curve r) → scheduled r ≡ bonus_cut r
+  pub cut_some : 0 < length (dispatched_curve r) → scheduled r ≡ bonus_cut r
   unfolding scheduled bonus_cut bonus_cut_by
   cut_some = by (dispatched_curve r)
     where
@@ -133,7 +133,7 @@ module _ (on : ℕ) (r : Row) (s : Schedule) where
 -- a row of a file that names no schedules
 module _ (f : List ℕ) (w : RowWords) (none : schedules_named f w ≡ []) where
   -- was dispatched on none
-  on_nothing : dispatched_on (row_of f w) ≡ []
+  pub on_nothing : dispatched_on (row_of f w) ≡ []
   unfolding dispatched_on
   on_nothing =
       let d = (row_of f w).dispatched in

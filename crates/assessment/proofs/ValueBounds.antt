@@ -17,7 +17,7 @@ use Rattle.assessment.proofs.Limits.{charge_product_le}
 use Rattle.assessment.proofs.Promises.{or_zero_le, or_zero_sum}
 
 -- the size that is known of a number in bits is at most its magnitude
-mag_le : (z : ℤ) → mag z ≤ nat_abs z
+pub mag_le : (z : ℤ) → mag z ≤ nat_abs z
 mag_le (pos n) = omega arith
 mag_le (negsuc n) = omega arith
 
