@@ -130,14 +130,14 @@ fn responds(row: &SoundRow<'_>) -> bool
     }
 }
 
-// Whether a row is considered, by its kind: a PRD row by its curve, an importer by the event, any other always.
-#[tactic(auto, unfolding(crate::proofs::Opened::by_kind))]
+// Whether a row is considered, by the kind word: a PRD row by its curve, an importer by the event, any other always.
+#[tactic(auto, using(reading::proofs::KindWords::kind_low), unfolding(crate::proofs::Opened::by_kind))]
 pub fn considered(row: &SoundRow<'_>) -> bool
     ensures { result ≡ considered_of row.now.file.header.region_wide (row_said row.now) }
 {
-    let kind = row.kind();
-    if kind == Kind::Responsive {
-        return responds(row);
+    match row.words.kind {
+        Kind::RESPONSIVE => responds(row),
+        Kind::IMPORTER => row.file.header.region_wide == 1,
+        _ => true,
     }
-    kind != Kind::Importer || row.file.header.region_wide == 1
 }

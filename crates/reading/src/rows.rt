@@ -32,6 +32,21 @@ pub enum Kind {
     Importer = 5,
 }
 
+impl Kind {
+    // The kind words, on which the rules of a row match.
+    pub const GENERATION: u64 = Kind::Generation as u64;
+
+    pub const DEMAND: u64 = Kind::Demand as u64;
+
+    pub const EFFICIENCY: u64 = Kind::Efficiency as u64;
+
+    pub const RESPONSIVE: u64 = Kind::Responsive as u64;
+
+    pub const ENERGY_ONLY: u64 = Kind::EnergyOnly as u64;
+
+    pub const IMPORTER: u64 = Kind::Importer as u64;
+}
+
 // The kinds of schedules: market, price-based PLS, cost.
 #[derive(Clone, Copy, PartialEq, Eq)]
 pub enum ScheduleKind {
