@@ -15,11 +15,13 @@ ghost use Rattle.reading.specs.Block.{
 };
 ghost use Rattle.reading.specs.Values.{sizes_in, terms_in, block_in, BlockRead};
 
-use crate::spans::{Sizes, Span, format_word};
+use crate::spans::{Sizes, Span, not_of_formats};
 use words::{Word, size};
 
 // Of the two formats: the one that names no year, and the one that does. The word of a format is only compared.
 const YEARLESS: u64 = 1;
+
+const DATED: u64 = 2;
 
 const YEARLESS_HEADER_BYTES: usize = 20;
 
@@ -117,14 +119,11 @@ fn block_sizes(format: u64) -> Sizes
 }
 
 // Ground 1.
-#[tactic(auto, unfolding(crate::specs::Block::not_a_block, crate::specs::Block::block_sizes, crate::specs::Formats::not_of_formats))]
+#[tactic(auto, unfolding(crate::specs::Block::not_a_block))]
 pub fn not_a_block(block: &[u8]) -> bool
     ensures { result ≡ not_a_block block.now }
 {
-    match format_word(block) {
-        Some(format) => block_sizes(format).outside(block.len()),
-        None => true,
-    }
+    not_of_formats(block, block_sizes(YEARLESS), block_sizes(DATED))
 }
 
 // Ground 2.

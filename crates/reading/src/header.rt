@@ -19,11 +19,13 @@ ghost use Rattle.reading.specs.Interval.{
 ghost use Rattle.reading.specs.Kinds.{format_of};
 ghost use Rattle.reading.specs.Values.{sizes_in, table_in, layout_in, header_in, HeaderRead};
 
-use crate::spans::{Sizes, Span, format_word};
+use crate::spans::{Sizes, Span, not_of_formats};
 use words::{Word, signed, size};
 
-// The word of the format whose rows name points: it is only compared, to make a Format.
+// The words of the formats whose rows name points and schedules: they are only compared, to make a Format.
 const CURVES: u64 = 1;
+
+const SCHEDULES: u64 = 2;
 
 pub const MOST_FILE_BYTES: usize = 61440;
 
@@ -157,14 +159,11 @@ fn file_sizes(format: u64) -> Sizes
 }
 
 // Ground 7.
-#[tactic(auto, unfolding(crate::specs::Interval::not_a_file, crate::specs::Interval::file_sizes, crate::specs::Formats::not_of_formats))]
+#[tactic(auto, unfolding(crate::specs::Interval::not_a_file))]
 pub fn not_a_file(file: &[u8]) -> bool
     ensures { result ≡ not_a_file file.now }
 {
-    match format_word(file) {
-        Some(format) => file_sizes(format).outside(file.len()),
-        None => true,
-    }
+    not_of_formats(file, file_sizes(CURVES), file_sizes(SCHEDULES))
 }
 
 // Whether a signed number lies outside -most to most. By its unsigned_abs it takes settling two instructions more each

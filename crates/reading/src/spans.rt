@@ -1,8 +1,14 @@
 // Stretches of a buffer, and the length and format of one.
 
-ghost use Rattle.std.specs.Prelude.{◌≡◌, not, MatchOption};
+ghost use Rattle.std.specs.Prelude.{◌≡◌, ◌≤◌, not, MatchOption};
 ghost use Rattle.words.specs.Grounds.{lies_from, overlap};
-ghost use Rattle.reading.specs.Formats.{sizes_outside, FormatNone, FormatRead};
+ghost use Rattle.reading.specs.Formats.{
+  format_bytes,
+  sizes_outside,
+  not_of_formats,
+  FormatNone,
+  FormatRead,
+};
 ghost use Rattle.reading.specs.Values.{sizes_in};
 
 use words::Word;
@@ -64,5 +70,19 @@ pub fn format_word(b: &[u8]) -> Option<u64>
     match u32::number(b, 0) {
         format @ 1..=2 => Some(format),
         _ => None,
+    }
+}
+
+// Whether a buffer is of neither format, or has a length that its format does not.
+#[tactic(auto, unfolding(crate::specs::Formats::not_of_formats))]
+pub fn not_of_formats(b: &[u8], one: Sizes, two: Sizes) -> bool
+    requires format_bytes_le_least { format_bytes ≤ one.least }
+    requires format_bytes_le_least_2 { format_bytes ≤ two.least }
+    ensures { result ≡ not_of_formats (sizes_in one) (sizes_in two) b.now }
+{
+    match format_word(b) {
+        Some(1) => one.outside(b.len()),
+        Some(_) => two.outside(b.len()),
+        None => true,
     }
 }
