@@ -1,6 +1,6 @@
 -- The words of a ledger as the code reads them, by byte offset, and what its tests of the layout say.
 use Prim.Native.Nat.{ℕ, ◌+◌, ◌≤◌, ◌<◌}
-use mathlib.Core.Path.{◌≡◌, sym, ap, ◌∙◌}
+use mathlib.Core.Path.{◌≡◌, refl, sym, ap, ◌∙◌}
 use mathlib.Core.List.{List}
 use mathlib.Core.Bool.{Bool, true, not, ◌||◌}
 use native.Mathlib.Nat.{add-zero}
@@ -13,16 +13,16 @@ use Rattle.assessment.specs.Assessment.{Account}
 use Rattle.ledger.specs.Ledger.{ledger_header_bytes, ledger_format, accounts_offset, account_at, not_laid_out}
 
 -- an account begins with its id
-pub id_word : (b : List ℕ) (at : ℕ) → number_at 8 b at ≡ (account_at (drop at b)).id
+pub id_word : (b : List ℕ) (at place : ℕ) → place ≡ at → number_at 8 b place ≡ (account_at (drop at b)).id
 unfolding account_at word64
-id_word b at = sym (number_at_drop 8 at b 0 ∙ ap (number_at 8 b) (add-zero at))
+id_word b at place here = rw here (sym (number_at_drop 8 at b 0 ∙ ap (number_at 8 b) (add-zero at)))
 
 -- the four words at a byte offset are the account there
 pub account_words_lem : (b : List ℕ) (at : ℕ) (a : Account) → a.id ≡ number_at 8 b at → a.largest ≡ number_at 8 b (at + 8)
     → a.charged ≡ number_at 8 b (at + 16) → a.credited ≡ number_at 8 b (at + 24) → a ≡ account_at (drop at b)
 unfolding account_at word64
 account_words_lem b at a e f g h = λ i. record {
-  id = (e ∙ id_word b at) i;
+  id = (e ∙ id_word b at at refl) i;
   largest = (f ∙ sym (number_at_drop 8 at b 8)) i;
   charged = (g ∙ sym (number_at_drop 8 at b 16)) i;
   credited = (h ∙ sym (number_at_drop 8 at b 24)) i;

@@ -80,9 +80,9 @@ less_larger x zero h = absurd (omega arith)
 less_larger x (suc n) h = rw (lt-ltb x (suc n) h)
 
 -- what the bits of a word are as a signed number
-pub signed_bits : (w : ℕ) → w < 4294967296 → to_z w32 w ≡ signed w
+pub signed_bits : (w bits : ℕ) → bits ≡ w → w < 4294967296 → to_z w32 bits ≡ signed w
 unfolding signed
-signed_bits w h = by (ltb w 2147483648)
+signed_bits w bits same h = rw same (by (ltb w 2147483648))
   where
     by : (t : Bool) → cond t (pos w) (negsuc (4294967296 - suc w)) ≡ cond t (pos w) (pos w -ℤ pos 4294967296)
     by true = refl

@@ -57,13 +57,15 @@ place_turn write one first at i next xs d b x goal left more room put behind =
     let here = ap write (drop-cons xs i d more) ∙ first (get_or xs i d) (drop (suc i) xs) in
     rw add-one (place_rest at (one (get_or xs i d)) (write (drop (suc i) xs)) b x goal next room put behind (ap (λ l. placed_at at l b) (sym here) ∙ left))
 
--- one turn of writing the bytes of a number: those above the lowest are left
-pub bytes_turn : (at next left n v : ℕ) (b goal : List ℕ) → placed_at at (bytes_of left v) b ≡ goal → left ≡ suc n
-    → next ≡ at + 1 → at < length b → placed_at next (bytes_of n (v / 256)) (set b at (v % 256)) ≡ goal
+-- one turn of writing the bytes of a number: the lowest is put at its place, and those above it are left
+pub bytes_turn : (at next left n v place low rest : ℕ) (b goal : List ℕ) → placed_at at (bytes_of left v) b ≡ goal
+    → left ≡ suc n → next ≡ at + 1 → at < length b → place ≡ at → low ≡ v % 256 → rest ≡ v / 256
+    → placed_at next (bytes_of n rest) (set b place low) ≡ goal
 unfolding bytes_of
-bytes_turn at next left n v b goal all more behind room =
-    place_rest at (v % 256 ∷ []) (bytes_of n (v / 256)) b (set b at (v % 256)) goal next (omega arith)
-    (place_byte at (v % 256) b room) behind (ap (λ k. placed_at at (bytes_of k v) b) (sym more) ∙ all)
+bytes_turn at next left n v place low rest b goal all more behind room there first above =
+    rw (there, first, above)
+    (place_rest at (v % 256 ∷ []) (bytes_of n (v / 256)) b (set b at (v % 256)) goal next (omega arith)
+    (place_byte at (v % 256) b room) behind (ap (λ k. placed_at at (bytes_of k v) b) (sym more) ∙ all))
 
 -- where all bytes are written, nothing is left
 pub bytes_all : (at left v : ℕ) (b goal : List ℕ) → placed_at at (bytes_of left v) b ≡ goal → left ≡ 0 → b ≡ goal

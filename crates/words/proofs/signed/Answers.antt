@@ -1,5 +1,6 @@
 -- `words::signed` meets its contract.
 use mathlib.Core.Path.{◌∙◌}
+use native.Mathlib.Omega.{arith}
 use mir.Syntax.{w32, w64}
 use mir.ValLaws.{to_z-of_z}
 use Rattle.words.proofs.Ints.{signed_bits}
@@ -11,4 +12,4 @@ returns-clause-value c =
     ∙ c.from.ensures
     ∙ to_z-of_z w32 c.cast_signed.result (record { sfits = c.cast_signed.type_inv })
     ∙ c.cast_signed.ensures
-    ∙ signed_bits c.args.w c.requires
+    ∙ signed_bits c.args.w _ (omega arith) c.requires

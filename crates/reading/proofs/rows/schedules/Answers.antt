@@ -1,5 +1,6 @@
 -- `reading::rows::schedules` meets its contract. By the format.
 use mathlib.Core.Path.{sym, ◌∙◌}
+use native.Mathlib.Omega.{arith}
 use Rattle.reading.specs.Values.{row_in}
 use Rattle.reading.proofs.Layouts.{curves_said, schedules_said}
 use Rattle.reading.proofs.Schedules.{length_own, length_table}
@@ -8,7 +9,7 @@ use Rattle.reading.proofs.rows.schedules.Goals as goal
 pub returns-in-Curves : goal.returns-in-Curves
 unfolding row_in
 returns-in-Curves c f said =
-    c.min.ensures ∙ sym (length_own f (row_in c.args.row) (said ∙ curves_said c.in-Curves.ensures))
+    omega (arith, c.min.ensures, length_own f (row_in c.args.row) (said ∙ curves_said c.in-Curves.ensures))
 
 pub returns-in-Schedules : goal.returns-in-Schedules
 unfolding row_in
