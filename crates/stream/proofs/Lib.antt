@@ -1,3 +1,4 @@
 pub mod Figures
 pub mod Laws
+pub mod StepLaws
 pub mod Claims
