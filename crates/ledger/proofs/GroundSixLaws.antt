@@ -245,7 +245,7 @@ module _ (b : List ℕ) {bad_layout : Bool} (layout : bad_layout ≡ unlaid b) w
       -- and of its accounts
       module _ (inside : out_of_range ≡ false) {refused : Bool} (accounts : refused ≡ accounts_refused b) where
         -- where it refuses none of the others, it refuses them just where these are
-        accounts_decide : not_a_ledger b ≡ refused
+        pub accounts_decide : not_a_ledger b ≡ refused
         accounts_decide =
             ground_6_is b
             ∙ rw (sym layout ∙ laid, sym (standing_refused_lem b s says) ∙ sym range ∙ inside) (sym accounts)
