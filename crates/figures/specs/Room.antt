@@ -1,6 +1,10 @@
 -- Limits of the programs that print figures: what a line, a case and a buffer hold.
 use Rattle.std.specs.Prelude.{ℕ}
 
+-- the longest label that is printed with its figures at once
+abbrev pub label_room : ℕ
+label_room = 64
+
 -- the most figures of a line
 abbrev pub most_figures : ℕ
 most_figures = 8
