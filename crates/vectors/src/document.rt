@@ -1,6 +1,6 @@
 // The figures that document 01 gives.
 
-use crate::cases::{Case, RowWord, Terms};
+use crate::cases::{Case, RowWord, Settled, Terms};
 use figures::document::CURVE_11;
 use figures::layout::{Point, Row};
 use figures::print::figure;
@@ -125,15 +125,19 @@ const SHARING: [Row; 2] = [
     [2, 1, 0, 0, 10001, 0, 0, 0, 0, 0, 0, 0, 0, 0],
 ];
 
+// What they leave of a pool of 557628 cents.
+fn shared() -> Settled {
+    Case::of(LISTING, &SHARING, &[]).settled_into(LISTING.charged(50000, 557628))
+}
+
 pub fn shares() {
-    let shared = Case::of(LISTING, &SHARING, &[]).settled_into(LISTING.charged(50000, 557628));
     figure(
         b"01 pool 557628, credit of bonus 30000: ",
-        shared.word(0, RowWord::Credit),
+        shared().word(0, RowWord::Credit),
     );
     figure(
         b"01 pool 557628, credit of bonus 10001: ",
-        shared.word(1, RowWord::Credit),
+        shared().word(1, RowWord::Credit),
     );
-    figure(b"01 pool 557628, carried: ", shared.carried());
+    figure(b"01 pool 557628, carried: ", shared().carried());
 }

@@ -109,25 +109,31 @@ const SOLAR: [Row; 2] = [
 
 const SOLAR_POINT: [Point; 1] = [[0, 0]];
 
+// A word of the row that was scheduled below what it gave.
+fn below(word: RowWord) -> u64 {
+    Case::of(LISTING, &SCHEDULED_BELOW, &SCHEDULED_POINTS)
+        .settled()
+        .word(0, word)
+}
+
+// A word of the solar row.
+fn solar(word: RowWord) -> u64 {
+    Case::of(LISTING, &SOLAR, &SOLAR_POINT)
+        .settled()
+        .word(0, word)
+}
+
 pub fn rows() {
-    let below = Case::of(LISTING, &SCHEDULED_BELOW, &SCHEDULED_POINTS).settled();
     figure(
         b"summary, row scheduled below, economic: ",
-        below.word(0, RowWord::Economic),
+        below(RowWord::Economic),
     );
     figure(
         b"summary, row scheduled below, shortfall: ",
-        below.word(0, RowWord::Shortfall),
+        below(RowWord::Shortfall),
     );
-    let solar = Case::of(LISTING, &SOLAR, &SOLAR_POINT).settled();
-    figure(
-        b"summary, solar row, economic: ",
-        solar.word(0, RowWord::Economic),
-    );
-    figure(
-        b"summary, solar row, charge: ",
-        solar.word(0, RowWord::Charge),
-    );
+    figure(b"summary, solar row, economic: ", solar(RowWord::Economic));
+    figure(b"summary, solar row, charge: ", solar(RowWord::Charge));
 }
 
 // The curve of the listing's row 12, from 1000 to 6000 cents.
