@@ -6,6 +6,8 @@ use Rattle.event.proofs.next_file.Goals as goal
 pub returns-in_default : goal.returns-in_default
 returns-in_default c = cut_length _ c.requires c.in_default.ensures.cases
 
+-- after a length, enough bytes for the file that it announces are that file and what follows it,
+-- and fewer are a cut
 pub returns : goal.returns
 returns c =
     let n = c.size.ensures in
