@@ -171,6 +171,33 @@ module _ {ledger file : List ℕ} {s : StandingValue} {h : HeaderValue} (p : Pas
   abbrev v : Assessed
   v = assessed_file ledger file
 
+  -- what is known of row i in its turn: its figures f, and its account a, raised
+  pub record Turn (i : ℕ) (f : FiguresValue) (a : AccountValue) : Type 0 where
+    pub taken : i < (header_of file).row_count
+    pub figures : figures_in f ≡ (charged_at ledger file i).figures
+    pub shortfall : f.shortfall.0 ≤ most_kilowatts
+    pub account : account_in a
+        ≡ raised (row_at file i).committed (account_of (row_at file i).id (ledger_of ledger).accounts)
+    pub largest : a.largest.0 ≤ most_kilowatts
+
+  -- a row in its turn, charged
+  module _ {i : ℕ} {f : FiguresValue} {a : AccountValue} (t : Turn i f a) {cents : ℕ}
+      (charged : cents ≡ charge (terms_in s.terms) (account_in a) f.shortfall.0) where
+    -- its charge is that of the interval
+    charge_is : cents ≡ (charged_at ledger file i).charge
+    unfolding figures_in charged_of charged_row
+    charge_is = charged ∙ (λ x. charge (terms_are p x) (t.account x) (t.figures x).shortfall)
+
+    module _ {result₀ result : List ℕ} {so kw : ℕ} (c : Charging ledger file result₀ result so kw i) where
+      -- the charge is left to add to the sum so far
+      charges_next : so + cents + sum (λ c. c.charge) (charged_left ledger file (i + 1)) ≡ charges v
+      charges_next =
+          sum_turn (λ c. c.charge) so (charges v) cents (charged_turn ledger file i t.taken) c.charges charge_is
+
+      -- so the sum fits with it
+      pub charges_more : so + cents < 2 ^ 64
+      charges_more = omega (arith, charges_next, charges_fit p, most_charge_lem)
+
   -- the pass begins with all rows, before the first account
   pub pass_starts : {result : List ℕ} {j budget : ℕ} → j ≡ 0 → budget ≡ h.rows + s.accounts
       → Pass ledger file result result 0 0 0 j budget
@@ -269,22 +296,21 @@ module _ {ledger file : List ℕ} {s : StandingValue} {h : HeaderValue} (p : Pas
           pub bonus_more : kw + f.bonus.0 < 2 ^ 64
           bonus_more = omega (arith, bonus_next, bonus_fits p)
 
+          -- that is what is known of the row in its turn
+          turn : Turn i f b
+          turn = record {
+            taken = in_file p taken;
+            figures = figures_are;
+            shortfall = shortfall_few;
+            account = account_is;
+            largest = largest_few;
+          }
+
           -- what the row is charged
           module _ {cash : ℕ} (charged : cash ≡ charge (terms_in s.terms) (account_in b) f.shortfall.0) where
-            -- is the charge of the interval's row
-            charge_is : cash ≡ this.charge
-            unfolding figures_in charged_of charged_row
-            charge_is = charged ∙ (λ x. charge (terms_are p x) (account_is x) (figures_are x).shortfall)
-
-            -- it is left to add to the sum so far
-            charges_next : cents + cash + sum (λ c. c.charge) rest ≡ charges v
-            charges_next =
-                let turn = charged_turn ledger file i (in_file p taken) in
-                sum_turn (λ c. c.charge) cents (charges v) cash turn pass.charging.charges charge_is
-
-            -- so the sum fits with it
-            pub charges_more : cents + cash < 2 ^ 64
-            charges_more = omega (arith, charges_next, charges_fit p, most_charge_lem)
+            -- fits with the sum so far
+            pub charge_more : cents + cash < 2 ^ 64
+            charge_more = charges_more turn charged pass.charging
 
             -- once both are added and the row's words are written, the rows from i + 1 on are left, and the accounts
             -- behind the row's
@@ -302,21 +328,21 @@ module _ {ledger file : List ℕ} {s : StandingValue} {h : HeaderValue} (p : Pas
                 let by_rows : ℕ → List ℕ
                 = λ n. cond (ltb (length result) (result_bytes n)) result (written_at (result_bytes i) ws result) in
                 let written = put ∙ ap by_rows (sym (rows_count p)) in
-                let words = words_of f cash this figures_are charge_is in
+                let words = words_of f cash this figures_are (charge_is turn charged) in
                 let step = left_turn n i this rest ws result after low words written in
-                let turn = charged_turn ledger file i (in_file p taken) in
+                let first = charged_turn ledger file i (in_file p taken) in
                 record {
                   within = omega (arith, found.within);
                   walks = rw on found.next;
                   charging = record {
-                    charges = rw cents_more charges_next;
+                    charges = rw cents_more (charges_next turn charged pass.charging);
                     bonus = rw kw_more bonus_next;
                     long = step.0 ∙ pass.charging.long;
-                    left = step.1 ∙ ap (λ cs. left_to_write n i cs result) (sym turn) ∙ pass.charging.left;
+                    left = step.1 ∙ ap (λ cs. left_to_write n i cs result) (sym first) ∙ pass.charging.left;
                   };
                   budget = row_spends p.tabled.read pass.budget taken read refl place take on left;
                 }
 
 -- by these, search finds what a turn of the pass knows
 pub ruleset turns =
-    (pass_starts, budget_lasts, figures_of_file, account_there, shortfall_few, largest_few, bonus_more, charges_more, pass_turn)
+    (pass_starts, budget_lasts, figures_of_file, account_there, shortfall_few, largest_few, bonus_more, charge_more, pass_turn)

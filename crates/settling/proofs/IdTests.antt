@@ -27,11 +27,11 @@ abbrev row_ids : List Row → List ℕ
 row_ids rs = map (λ r. r.id) rs
 
 -- whether a walk from account j of a ledger l on does not find the ids of all rows of a file f from i on
-abbrev unknown_from : List ℕ → List ℕ → ℕ → ℕ → Bool
+abbrev pub unknown_from : List ℕ → List ℕ → ℕ → ℕ → Bool
 unknown_from l f i j = not (finds_all (row_ids (rows_left f i)) (drop j (ids_in (ledger_of l))))
 
 -- where the ledger's ids rise, ground 12 says whether the walk from the first account on does not find all rows
-unknown_start : (l f : List ℕ) → rises (ids_in (ledger_of l)) ≡ true
+pub unknown_start : (l f : List ℕ) → rises (ids_in (ledger_of l)) ≡ true
     → row_ids_unknown (ledger_of l) (rows_of f) ≡ unknown_from l f 0 0
 unfolding row_ids_unknown ids_do_not_rise id_unknown
 unknown_start l f up =

@@ -408,6 +408,104 @@ module _ {b file : List ℕ} {s : StandingValue} {h : HeaderValue} (p : Passed b
   abbrev x : Assessed
   x = assessed_file b file
 
+  -- row i is posted
+  module _ {i : ℕ} (taken : i < h.rows) where
+    -- the row, charged
+    abbrev one : ChargedRow
+    one = charged_at b file i
+
+    -- the rows behind it
+    abbrev more : List ChargedRow
+    more = charged_left b file (i + 1)
+
+    -- its figures and its charge keep their bounds
+    one_bounded : Bounded one
+    one_bounded = charged_bounded p (row_at file i) (row_within p taken)
+
+    -- its words stand in the result
+    module _ {result₀ result : List ℕ} (crediting : Crediting b file result₀ result i) where
+      one_stands : drop (result_bytes i) result ≡ bytes_of_words 8 (row_words (one ∷ more)) ++ crediting.tail
+      one_stands = row_stands b file crediting (in_file p taken)
+
+      -- the bonus that is read there is its own
+      pub bonus_read : {kw : ℕ} → kw ≡ word64 (drop (result_bytes i) result) 5
+          → (kw ≡ one.figures.bonus) × (kw ≤ most_actual)
+      bonus_read read =
+          let most = one_bounded.figures.bonus in
+          let own = bonus_stands i one more crediting.tail result one_stands (omega (arith, most)) in
+          (read ∙ own, omega (arith, read, own, most))
+
+      -- and so is the charge
+      pub charge_read : {charge : ℕ} → charge ≡ word64 (drop (result_bytes i) result) 6 → charge ≡ one.charge
+      charge_read read =
+          let fits : one.charge < 2 ^ 64 = omega (arith, one_bounded.charge, most_charge_lem) in
+          read ∙ charge_stands i one more crediting.tail result one_stands fits
+
+    -- the share of its bonus is its credit
+    pub credit_is : {given cash total kw : ℕ} → cash ≡ pool x → total ≡ total_bonus x → kw ≡ one.figures.bonus
+        → given ≡ share cash total kw → given ≡ credit x one
+    unfolding credit
+    credit_is cash_is total_is kw_is given_is = given_is ∙ (λ k. share (cash_is k) (total_is k) (kw_is k))
+
+    -- its credit and those of the rows behind it are left to add to a sum
+    module _ (cents : ℕ) (left : cents + sum (credit x) (charged_left b file i) ≡ credits x) {given : ℕ}
+        (credited : given ≡ credit x one) where
+      credits_next : cents + given + sum (credit x) more ≡ credits x
+      credits_next =
+          let turn = charged_turn b file i (in_file p taken) in
+          sum_turn (credit x) cents (credits x) given turn left credited
+
+      -- so the sum with it is at most the most cents, of a pool that ground 16 does not refuse
+      pub credits_most : pool x ≤ most_cents → cents + given ≤ most_cents
+      credits_most small = omega (arith, credits_next, credits_le x, small)
+
+    -- the walk finds its account, k
+    module _ {j k : ℕ} (found : Found b file i j k) where
+      -- the account as it was before the interval
+      abbrev own : Account
+      own = account_at (drop (ledger_bytes k) b)
+
+      -- raised, and with charge and credit added, it is as the row leaves it
+      posted_own : posted x one own ≡ added one.charge (credit x one) (raised (row_at file i).committed own)
+      unfolding posted charged_of charged_row row_of row_with
+      posted_own = rw (eq-eqb (row_words_at file i).id own.id (sym found.id))
+
+      -- in a ledger to which the rows before it are posted, it is read as a, and raised as r
+      module _ {ledger : List ℕ} (bytes : Bytes b) (posting : Posting b file ledger i j) (walks : Walks b file i j)
+          (row : RowValue) (read : row_in row ≡ row_words_at file i) (a r : AccountValue)
+          (account : account_in a ≡ account_at (drop (ledger_bytes k) ledger))
+          (raise : account_in r ≡ raised row.committed (account_in a)) where
+        -- r is the account as it was, raised
+        as_raised : account_in r ≡ raised (row_at file i).committed own
+        unfolding row_in row_of row_with
+        as_raised =
+            let same = account ∙ account_kept p bytes posting (in_file p taken) walks found in
+            raise ∙ (λ k. raised (read k).committed (same k))
+
+        -- the charge added to its sum fits
+        charge_fits : {charge : ℕ} → charge ≡ one.charge → r.charged.0 + charge < 2 ^ 64
+        unfolding account_in raised
+        charge_fits charged =
+            let within = account_within p taken found in
+            let limit = limit_le (ledger_of b).terms own.largest (terms_within p) within.largest in
+            let sums = ap (λ a. a.charged) as_raised in
+            omega (arith, sums, within.charged, limit, charged, one_bounded.charge, most_charge_lem)
+
+        -- and so does the credit, of a pool that ground 16 does not refuse
+        module _ (small : pool x ≤ most_cents) (cents : ℕ)
+            (left : cents + sum (credit x) (charged_left b file i) ≡ credits x) {given : ℕ}
+            (credited : given ≡ credit x one) where
+          credit_fits : r.credited.0 + given < 2 ^ 64
+          unfolding account_in raised
+          credit_fits =
+              let within = account_within p taken found in
+              omega (arith, ap (λ a. a.credited) as_raised, within.credited, credits_most cents left credited small)
+
+          -- so both do
+          pub account_fits : {charge : ℕ} → charge ≡ one.charge
+              → (r.charged.0 + charge < 2 ^ 64) × (r.credited.0 + given < 2 ^ 64)
+          account_fits charged = (charge_fits charged, credit_fits)
+
   -- the pass begins with all rows, where their words stand without credits
   pub pass_starts : {result : List ℕ} {j budget : ℕ} → Bytes b → result_bytes h.rows ≤ length result
       → result ≡ written_at result_header_bytes (row_words x.rows) result
@@ -458,67 +556,28 @@ module _ {b file : List ℕ} {s : StandingValue} {h : HeaderValue} (p : Passed b
           (posting_ends p pass.bytes pass.posting all pass.within, crediting_ends b file pass.crediting all),
         )
 
-    -- row i, charged
-    abbrev one : ChargedRow
-    one = charged_at b file i
-
-    -- the rows behind it
-    abbrev more : List ChargedRow
-    more = charged_left b file (i + 1)
-
     -- row i is posted
     module _ (taken : i < h.rows) where
-      -- its figures and its charge keep their bounds
-      one_bounded : Bounded one
-      one_bounded = charged_bounded p (row_at file i) (row_within p taken)
-
-      -- its words stand in the result
-      one_stands : drop (result_bytes i) result ≡ bytes_of_words 8 (row_words (one ∷ more)) ++ pass.crediting.tail
-      one_stands = row_stands b file pass.crediting (in_file p taken)
-
-      -- within it
+      -- its words lie within the result
       pub one_lies : result_bytes h.rows ≤ length result₀ → result_bytes (i + 1) ≤ length result
       unfolding result_bytes
       one_lies room = omega (arith, result_long)
 
-      -- the bonus that is read there is its own
-      bonus_own : {kw : ℕ} → kw ≡ word64 (drop (result_bytes i) result) 5 → kw ≡ one.figures.bonus
-      bonus_own read =
-          let most = one_bounded.figures.bonus in
-          read ∙ bonus_stands i one more pass.crediting.tail result one_stands (omega (arith, most))
-
-      -- and keeps its bound
+      -- the bonus that is read there keeps its bound
       pub bonus_few : {kw : ℕ} → kw ≡ word64 (drop (result_bytes i) result) 5 → kw ≤ most_actual
-      bonus_few read = omega (arith, bonus_own read, one_bounded.figures.bonus)
-
-      -- so is the charge
-      charge_own : {charge : ℕ} → charge ≡ word64 (drop (result_bytes i) result) 6 → charge ≡ one.charge
-      charge_own read =
-          let fits : one.charge < 2 ^ 64 = omega (arith, one_bounded.charge, most_charge_lem) in
-          read ∙ charge_stands i one more pass.crediting.tail result one_stands fits
+      bonus_few read = (bonus_read taken pass.crediting read).1
 
       -- the share of its bonus of a pool that ground 16 does not refuse
       module _ {cash : ℕ} (cash_is : cash ≡ pool x) (few : cash ≤ most_cents) {total : ℕ} (total_is : total ≡ total_bonus x)
           {kw : ℕ} (bonus : kw ≡ word64 (drop (result_bytes i) result) 5)
           {given : ℕ} (shared : given ≡ share cash total kw) where
         -- is its credit
-        credit_is : given ≡ credit x one
-        unfolding credit
-        credit_is = shared ∙ (λ k. share (cash_is k) (total_is k) (bonus_own bonus k))
+        credited : given ≡ credit x (charged_at b file i)
+        credited = credit_is taken cash_is total_is (bonus_read taken pass.crediting bonus).0 shared
 
-        -- it is left to add to the sum so far
-        credits_next : cents + given + sum (credit x) more ≡ credits x
-        credits_next =
-            let turn = charged_turn b file i (in_file p taken) in
-            sum_turn (credit x) cents (credits x) given turn pass.credits credit_is
-
-        -- so the sum with it is at most the most cents
-        credits_most : cents + given ≤ most_cents
-        credits_most = omega (arith, credits_next, credits_le x, cash_is)
-
-        -- and fits
+        -- so the sum with it fits
         pub credits_more : cents + given < 2 ^ 64
-        credits_more = omega (arith, credits_most)
+        credits_more = omega (arith, credits_most taken cents pass.credits credited (omega (arith, cash_is)))
 
       -- its row is read
       module _ (row : RowValue) (read : row_in row ≡ row_words_at file i) where
@@ -548,42 +607,21 @@ module _ {b file : List ℕ} {s : StandingValue} {h : HeaderValue} (p : Passed b
           -- it is read as a, and raised as r
           module _ (a r : AccountValue) (account : account_in a ≡ account_at (drop (ledger_bytes k) ledger))
               (raise : account_in r ≡ raised row.committed (account_in a)) where
-            -- the account as it was before the interval
-            abbrev own : Account
-            own = account_at (drop (ledger_bytes k) b)
-
-            -- is raised
-            as_raised : account_in r ≡ raised (row_at file i).committed own
-            unfolding row_in row_of row_with
-            as_raised =
-                let same = account ∙ account_kept p pass.bytes pass.posting (in_file p taken) pass.walks found in
-                raise ∙ (λ k. raised (read k).committed (same k))
-
             -- the charge added to its sum fits
             pub charged_fits : {charge : ℕ} → charge ≡ word64 (drop (result_bytes i) result) 6
                 → r.charged.0 + charge < 2 ^ 64
-            unfolding account_in raised
             charged_fits written =
-                let within = account_within p taken found in
-                let limit = limit_le (ledger_of b).terms own.largest (terms_within p) within.largest in
-                let sums = ap (λ a. a.charged) as_raised in
-                omega (arith, sums, within.charged, limit, charge_own written, one_bounded.charge, most_charge_lem)
+                charge_fits taken found pass.bytes pass.posting pass.walks row read a r account raise
+                (charge_read taken pass.crediting written)
 
             module _ {cash : ℕ} (cash_is : cash ≡ pool x) (few : cash ≤ most_cents) {total : ℕ}
                 (total_is : total ≡ total_bonus x) {kw : ℕ} (bonus : kw ≡ word64 (drop (result_bytes i) result) 5)
                 {given : ℕ} (shared : given ≡ share cash total kw) where
               -- and so does the credit
               pub credited_fits : r.credited.0 + given < 2 ^ 64
-              unfolding account_in raised
               credited_fits =
-                  let within = account_within p taken found in
-                  let most = credits_most cash_is few total_is bonus shared in
-                  omega (arith, ap (λ a. a.credited) as_raised, within.credited, most)
-
-              -- with both added it is as the row leaves it
-              posted_own : posted x one own ≡ added one.charge (credit x one) (raised (row_at file i).committed own)
-              unfolding posted charged_of charged_row row_of row_with
-              posted_own = rw (eq-eqb (row_words_at file i).id own.id (sym found.id))
+                  credit_fits taken found pass.bytes pass.posting pass.walks row read a r account raise
+                  (omega (arith, cash_is)) cents pass.credits (credited cash_is few total_is bonus shared)
 
               -- once it is written, and the credit, the rows from i + 1 on are left, and the accounts behind the row's
               pub pass_turn : {charge : ℕ} → charge ≡ word64 (drop (result_bytes i) result) 6
@@ -596,9 +634,10 @@ module _ {b file : List ℕ} {s : StandingValue} {h : HeaderValue} (p : Passed b
               unfolding row_in
               pass_turn written out adds room {ledger'} {result'} {sums} {spent} {next} {left} put write sum take on rest =
                   let low = in_file p taken in
-                  let mine = charge_own written in
-                  let own_credit = credit_is cash_is few total_is bonus shared in
-                  let posts = adds ∙ (λ k. added (mine k) (own_credit k) (as_raised k)) ∙ sym posted_own in
+                  let mine = charge_read taken pass.crediting written in
+                  let own_credit = credited cash_is few total_is bonus shared in
+                  let lifted = as_raised taken found pass.bytes pass.posting pass.walks row read a r account raise in
+                  let posts = adds ∙ (λ k. added (mine k) (own_credit k) (lifted k)) ∙ sym (posted_own taken found) in
                   let P : ℕ → Type 0 = λ next. Pass b file result₀ ledger' result' sums (i + 1) next left in
                   subst P (sym on) (record {
                     bytes = pass.bytes;
@@ -606,7 +645,7 @@ module _ {b file : List ℕ} {s : StandingValue} {h : HeaderValue} (p : Passed b
                     walks = found.next;
                     posting = posting_turn p pass.bytes pass.posting low pass.walks found (account_in out) posts put;
                     crediting = crediting_turn b file pass.crediting low (one_lies room) own_credit write;
-                    credits = rw sum (credits_next cash_is few total_is bonus shared);
+                    credits = rw sum (credits_next taken cents pass.credits own_credit);
                     budget = row_spends p.tabled.read pass.budget taken read ids_same place take refl rest;
                   })
 

@@ -61,7 +61,7 @@ answers a = record {
 
 module _ (l f r : List ℕ) where
   -- where one of grounds 6 to 15 refuses, settling answers it and leaves both buffers as they were
-  end_refused : (g : ℕ) → g ≡ answered (grounds_before_pool l f r) → (g ≡ 0 → ⊥) → Answers g l r (settling l f r)
+  pub end_refused : (g : ℕ) → g ≡ answered (grounds_before_pool l f r) → (g ≡ 0 → ⊥) → Answers g l r (settling l f r)
   end_refused g e some =
       let refused = refused_before l f r (ne_eqb (answered (grounds_before_pool l f r)) 0 (λ z. some (e ∙ z))) in
       rw e (answers refused)
