@@ -32,9 +32,9 @@ use words::refusal::Refusal;
 const MOST_CHARGES: Cents = Cents(512 * 813333333);
 
 // Ground 16, by charging the rows on trial, into a result without room.
-fn pool_too_large(ledger: &[u8], interval: Interval) -> bool
-    requires { Passed ledger.now interval.standing interval.scanned.file.bytes.now interval.scanned.file.header }
-    ensures { result ≡ pool_too_large (assessed_file ledger.now interval.entry.scanned.file.bytes.now) }
+fn pool_too_large(ledger: &[u8], interval: &Interval<'_>) -> bool
+    requires { Passed ledger.now interval.now.standing interval.now.scanned.file.bytes.now interval.now.scanned.file.header }
+    ensures { result ≡ pool_too_large (assessed_file ledger.now interval.now.scanned.file.bytes.now) }
 {
     let room = MOST_CARRIED.minus(interval.standing.carried);
     // Only where carried cents leave little room can charges exceed it.
@@ -47,15 +47,15 @@ fn pool_too_large(ledger: &[u8], interval: Interval) -> bool
 }
 
 // Writes the result and the ledger of a file that no ground refuses.
-fn write_settled(ledger: &mut [u8], interval: Interval, res: &mut [u8])
-    requires passed { Passed ledger.old interval.standing interval.scanned.file.bytes.now interval.scanned.file.header }
-    requires rows_in_bounds { result_bytes interval.scanned.file.header.rows ≤ length res.old }
-    requires days_few { interval.scanned.file.header.days ≤ leap_year }
-    requires pool_small { pool (assessed_file ledger.old interval.scanned.file.bytes.now) ≤ most_cents }
+fn write_settled(ledger: &mut [u8], interval: &Interval<'_>, res: &mut [u8])
+    requires passed { Passed ledger.old interval.now.standing interval.now.scanned.file.bytes.now interval.now.scanned.file.header }
+    requires rows_in_bounds { result_bytes interval.now.scanned.file.header.rows ≤ length res.old }
+    requires days_few { interval.now.scanned.file.header.days ≤ leap_year }
+    requires pool_small { pool (assessed_file ledger.old interval.now.scanned.file.bytes.now) ≤ most_cents }
     ensures ledger_after { ledger.new
-        ≡ written (ledger_words (settled_ledger ledger.old interval.entry.scanned.file.bytes.now)) ledger.old }
+        ≡ written (ledger_words (settled_ledger ledger.old interval.now.scanned.file.bytes.now)) ledger.old }
     ensures res_after { res.new
-        ≡ written (result_words (assessed_file ledger.old interval.entry.scanned.file.bytes.now)) res.old }
+        ≡ written (result_words (assessed_file ledger.old interval.now.scanned.file.bytes.now)) res.old }
 {
     let s = interval.standing;
     let h = interval.scanned.file.header;
@@ -102,9 +102,9 @@ pub fn settle_file(ledger: &mut [u8], file: &[u8], res: &mut [u8]) -> Result<(),
         scanned,
         ratio: ratio_of(&scanned),
     };
-    if pool_too_large(ledger, interval) {
+    if pool_too_large(ledger, &interval) {
         return Err(Refusal::PoolTooLarge);
     }
-    write_settled(ledger, interval, res);
+    write_settled(ledger, &interval, res);
     Ok(())
 }

@@ -28,12 +28,12 @@ pub struct Interval<'a> {
 
 // Adds up charges and bonuses, and writes the words of every row but for its credit
 // into a result that has room for them.
-pub fn charge_rows(ledger: &[u8], interval: Interval, res: &mut [u8]) -> Sums
-    requires { Passed ledger.now interval.standing interval.scanned.file.bytes.now interval.scanned.file.header }
-    ensures charges_value { result.charges.0 ≡ charges (assessed_file ledger.now interval.entry.scanned.file.bytes.now) }
-    ensures bonus_value { result.bonus.0 ≡ total_bonus (assessed_file ledger.now interval.entry.scanned.file.bytes.now) }
+pub fn charge_rows(ledger: &[u8], interval: &Interval<'_>, res: &mut [u8]) -> Sums
+    requires { Passed ledger.now interval.now.standing interval.now.scanned.file.bytes.now interval.now.scanned.file.header }
+    ensures charges_value { result.charges.0 ≡ charges (assessed_file ledger.now interval.now.scanned.file.bytes.now) }
+    ensures bonus_value { result.bonus.0 ≡ total_bonus (assessed_file ledger.now interval.now.scanned.file.bytes.now) }
     ensures res_after { res.new
-        ≡ charged_result (assessed_file ledger.now interval.entry.scanned.file.bytes.now) res.old }
+        ≡ charged_result (assessed_file ledger.now interval.now.scanned.file.bytes.now) res.old }
 {
     let scanned = interval.scanned;
     let rows = scanned.file.header.rows;

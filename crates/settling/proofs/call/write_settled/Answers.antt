@@ -60,6 +60,6 @@ returns c =
     let rest = rest_made p (pool_made p sums.charges_value c.plus-pool.ensures) put.result_value c.minus-carried.ensures in
     record {
       ledger_after = ledger_written p refl rest put.ledger_after c.write_standing.ensures;
-      res_after = result_written p _ c.requires.rows_in_bounds sums.res_after _ c.args.interval.ratio_is sums.charges_value
+      res_after = result_written p _ c.requires.rows_in_bounds sums.res_after _ c.args.interval.now.ratio_is sums.charges_value
           put.result_value rest sums.bonus_value put.res_after c.write_summary.ensures;
     }

@@ -22,7 +22,7 @@ to-walk-requires c = record { account_within = search rules; budget_suffices = s
 pub account_at-requires : goal.account_at-requires
 unfolding ledger_bytes
 account_at-requires c =
-    let below : c.to-walk.result.account < c.args.interval.standing.accounts = search turns in
+    let below : c.to-walk.result.account < c.args.interval.now.standing.accounts = search turns in
     omega (arith, below, c.requires.ledger_read.room)
 
 pub charge-charge-requires : goal.charge-charge-requires
