@@ -35,6 +35,9 @@ pub trait Steps<const ROOM: usize> {
     // what it prints on what comes next, what it leaves, and whether it goes on
     ghost outcome: { ℕ → Self → Next → Outcome ℕ Self };
 
+    // how it begins, before any block
+    ghost begins: { Self → Type 0 };
+
     // what holds before the step of a block
     ghost holds: { ℕ → Self → Type 0 };
 
@@ -156,6 +159,8 @@ impl Listing {
 
 impl Steps<LINES_BYTES> for Listing {
     ghost outcome = { λ number ledger next. in_bytes (step listing_steps number ledger next) };
+
+    ghost begins = { λ ledger. ledger ≡ ledger_buffer };
 
     ghost holds = { λ number ledger. Unit {0} };
 

@@ -158,6 +158,8 @@ impl Paging {
 impl Steps<STEP_ROOM> for Paging {
     ghost outcome = { plant_step };
 
+    ghost begins = { λ p. p.state ≡ page_start };
+
     ghost holds = { PageMayGoOn };
 
     // Takes the step on a block. The number says which, as in the definition: two programs over one stream, one for the

@@ -85,7 +85,8 @@ pub fn next_step<'a, const ROOM: usize, S: Steps<ROOM>>(
 
 // Takes step after step from the first block, and prints what each puts, until one stops or the output is closed.
 pub fn run<const ROOM: usize, S: Steps<ROOM>>(steps: &mut S, out: &mut ArrayVec<u8, ROOM>)
-    requires { S.holds 0 steps.old }
+    requires begins { S.begins steps.old }
+    requires held { S.holds 0 steps.old }
 {
     let mut head = [0; LENGTH_BYTES];
     let mut block = [0; BLOCK_BYTES];
