@@ -8,7 +8,7 @@ ghost use Rattle.stream.specs.Code.{StepTaken};
 ghost use Rattle.reading.specs.Interval.{most_file_bytes};
 ghost use Rattle.listing.specs.Npalist.{most_bytes};
 ghost use Rattle.listing.specs.Room.{most_blocks};
-ghost use Rattle.standard.specs.Input.{ReadNext};
+ghost use Rattle.standard.specs.Input.{ReadNext, IsFront};
 
 use arrayvec::ArrayVec;
 use listing::steps::{BLOCK_BYTES, MOST_BLOCKS, Steps, most_bytes, take_step};
@@ -27,9 +27,11 @@ pub struct Read<'a> {
     pub block: &'a [u8],
 }
 
-// Reads what there is of a word or a length.
+// Reads what there is of a word or a length: the front of what is lent. That is said by where the answer begins, since
+// no clause can name what a buffer holds while the answer borrows from it.
 pub fn read_word(word: &mut [u8]) -> &[u8]
-    ensures { length result.now ≤ length word.old }
+    ensures at_most { length result.now ≤ length word.old }
+    ensures front { IsFront word.entry result }
 {
     let got = io::read_full(STDIN, word);
     &word[..got]
@@ -40,7 +42,7 @@ pub fn read_word(word: &mut [u8]) -> &[u8]
 pub fn read_next<'a>(most: usize, head: &'a mut [u8], block: &'a mut [u8]) -> Read<'a>
     requires head_len { length head.old ≡ length_bytes }
     requires most_in_bounds { most ≤ length block.old }
-    ensures { ReadNext most result }
+    ensures { ReadNext most head.entry block.entry result }
 {
     let head = read_word(head);
     let part = due_part(most, head, block);
@@ -49,7 +51,7 @@ pub fn read_next<'a>(most: usize, head: &'a mut [u8], block: &'a mut [u8]) -> Re
     Read {
         head,
         due,
-        block: &part[..got],
+        block: &block[..got],
     }
 }
 
@@ -72,7 +74,7 @@ pub fn next_step<'a, const ROOM: usize, S: Steps<ROOM>>(
     requires block_len { length block.old ≡ most_file_bytes }
     requires held { S.holds number steps.old }
     requires empty { out.old.items ≡ [] }
-    ensures read_next { ReadNext (most_bytes number) result.0 }
+    ensures read_next { ReadNext (most_bytes number) head.entry block.entry result.0 }
     ensures taken { StepTaken
         (S.outcome number steps.old (next_block (most_bytes number) (result.0.head.now ++ result.0.block.now)))
         steps.new [] out.new.items result.1 }
