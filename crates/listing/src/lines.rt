@@ -60,7 +60,7 @@ pub fn put_heading<const ROOM: usize>(out: &mut ArrayVec<u8, ROOM>)
 // Puts a number in decimal. Most numbers of a listing are 0. A digit alone goes without the library's buffer: with it
 // for each, npalist prints five million rows a second, and not six. A digit is below 10, so that the cast cuts nothing.
 #[inline(always)]
-fn put_decimal<const ROOM: usize>(out: &mut ArrayVec<u8, ROOM>, v: u64)
+pub fn put_decimal<const ROOM: usize>(out: &mut ArrayVec<u8, ROOM>, v: u64)
     requires { array_vec_len out.old + most_digits ≤ ROOM }
     ensures { Puts out.old (decimal v) most_digits out.new }
 {
