@@ -1,6 +1,6 @@
 -- The laws of the first block and the later ones, and of the steps of a listing.
 use Prim.Native.Nat.{ℕ}
-use mathlib.Core.Path.{◌≡◌, refl, sym, ap, ◌∙◌}
+use mathlib.Core.Path.{◌≡◌, refl, sym, ap}
 use mathlib.Core.List.{List, [], ◌++◌}
 use mathlib.Core.Bool.{Bool, false, cond}
 use lib.Dec.{eqb}
@@ -8,7 +8,7 @@ use borrow.Author.Tests.{eq-eqb, ne_eqb}
 use Rattle.stream.specs.Stream.{End, Next}
 use Rattle.stream.specs.Steps.{Outcome, step}
 use Rattle.stream.specs.Code.{StepTaken}
-use Rattle.listing.specs.Npalist.{opening_listed, interval_listed, block_listed, end_lines, listing_steps}
+use Rattle.listing.specs.Npalist.{block_listed, end_lines, listing_steps}
 use Rattle.listing.specs.Lines.{bytes_of_lines}
 use Rattle.listing.specs.Code.{in_bytes}
 
@@ -25,24 +25,13 @@ pub taken_as : {S : Type 0} (o m : Outcome ℕ S) (state : S) (before after : Li
     → StepTaken m state before after on → StepTaken o state [] after on
 taken_as o m state before after on none same taken = rw (same, ← none) taken
 
--- the step of a listing on the opening, once it is opened
-pub opening_taken : (number : ℕ) (l m block before out after : List ℕ) (on : Bool) → number ≡ 0 → m ≡ l → before ≡ []
-    → StepTaken (in_bytes (opening_listed m block)) after before out on
+-- the step of a listing on a block, once it is opened or settled
+pub block_taken : (number : ℕ) (l m block before out after : List ℕ) (on : Bool) → m ≡ l → before ≡ []
+    → StepTaken (in_bytes (block_listed number m block)) after before out on
     → StepTaken (in_bytes (step listing_steps number l (Next.block block []))) after [] out on
-unfolding step listing_steps block_listed
-opening_taken number l m block before out after on first same none taken =
-    taken_as _ _ after before out on none
-    (ap in_bytes (at_first number _ _ first ∙ ap (λ l. opening_listed l block) (sym same))) taken
-
--- and on an interval block, once it is settled
-pub interval_taken : (number : ℕ) (l m block before out after : List ℕ) (on : Bool) → (number ≡ 0 → ⊥) → m ≡ l
-    → before ≡ []
-    → StepTaken (in_bytes (interval_listed number m block)) after before out on
-    → StepTaken (in_bytes (step listing_steps number l (Next.block block []))) after [] out on
-unfolding step listing_steps block_listed
-interval_taken number l m block before out after on later same none taken =
-    taken_as _ _ after before out on none
-    (ap in_bytes (at_later number _ _ later ∙ ap (λ l. interval_listed number l block) (sym same))) taken
+unfolding step listing_steps
+block_taken number l m block before out after on same none taken =
+    taken_as _ _ after before out on none (ap (λ l. in_bytes (block_listed number l block)) (sym same)) taken
 
 -- and where the stream stops, once its line is put
 pub end_taken : (number : ℕ) (l before out : List ℕ) (e : End) → before ≡ []

@@ -5,7 +5,7 @@ ghost use Rattle.std.specs.Prelude.{◌≡◌, true, ◌++◌, ◌+◌, ◌*◌,
 ghost use Rattle.arrayvec.specs.ArrayVec.{array_vec_len};
 ghost use Rattle.stream.specs.Code.{StepTaken};
 ghost use Rattle.settling.specs.Settling.{result_bytes};
-ghost use Rattle.listing.specs.Npalist.{file_lines, opening_listed, interval_listed};
+ghost use Rattle.listing.specs.Npalist.{file_lines, opening_listed, interval_listed, block_listed};
 ghost use Rattle.listing.specs.Lines.{bytes_of_lines};
 ghost use Rattle.listing.specs.Code.{in_bytes, Puts};
 ghost use Rattle.listing.specs.Room.{refused_room, row_room, block_room};
@@ -71,4 +71,23 @@ pub fn list_opening<const ROOM: usize>(
         return false;
     }
     true
+}
+
+// Opens or settles a block, and puts what it prints; answers whether the listing goes on. The number says which, as in
+// the definition: two programs over one stream, one for the opening and one for what follows, would not be plainer.
+pub fn list_block<const ROOM: usize>(
+    number: u64,
+    ledger: &mut [u8],
+    block: &[u8],
+    out: &mut ArrayVec<u8, ROOM>,
+) -> bool
+    requires { array_vec_len out.old + block_room ≤ ROOM }
+    ensures { StepTaken (in_bytes (block_listed number ledger.old block.now))
+        ledger.new out.old.items out.new.items result }
+{
+    if number != 0 {
+        list_interval(number, ledger, block, out);
+        return true;
+    }
+    list_opening(ledger, block, out)
 }

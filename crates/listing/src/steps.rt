@@ -8,11 +8,18 @@ ghost use Rattle.stream.specs.Steps.{Outcome, step};
 ghost use Rattle.stream.specs.Code.{end_in, found_as, StepTaken};
 ghost use Rattle.reading.specs.Interval.{most_file_bytes};
 ghost use Rattle.listing.specs.Lines.{bytes_of_lines};
-ghost use Rattle.listing.specs.Npalist.{ledger_buffer, most_bytes, over_long_ground, end_lines, listing_steps};
+ghost use Rattle.listing.specs.Npalist.{
+  ledger_buffer,
+  most_bytes,
+  over_long_ground,
+  end_lines,
+  listing_steps,
+  next_listed,
+};
 ghost use Rattle.listing.specs.Code.{in_bytes, stop_lines, Puts};
-ghost use Rattle.listing.specs.Room.{refused_room, cut_room, most_blocks};
+ghost use Rattle.listing.specs.Room.{refused_room, cut_room, block_room, most_blocks};
 
-use crate::blocks::{list_interval, list_opening};
+use crate::blocks::list_block;
 use crate::lines::{POOL_ROOM, ROW_ROOM, put_cut, put_refused};
 use arrayvec::ArrayVec;
 use ledger::layout::MOST_LEDGER_BYTES;
@@ -132,6 +139,31 @@ pub fn take_step<const ROOM: usize, S: Steps<ROOM>>(
     }
 }
 
+// Takes the step of a listing on what was read of a length and of the bytes due after it, for any ledger that is lent
+// and behind what the vector holds; answers whether to go on.
+pub fn list_next<const ROOM: usize>(
+    number: u64,
+    ledger: &mut [u8],
+    head: &[u8],
+    block: &[u8],
+    out: &mut ArrayVec<u8, ROOM>,
+) -> bool
+    requires head_in_bounds { length head.now ≤ length_bytes }
+    requires block_in_bounds { length block.now ≤ bytes_due (most_bytes number) head.now }
+    requires room { array_vec_len out.old + block_room ≤ ROOM }
+    ensures { StepTaken (in_bytes (next_listed number ledger.old (head.now ++ block.now)))
+        ledger.new out.old.items out.new.items result }
+{
+    let next = next_block(most_bytes(number), head, block);
+    match next {
+        Ok(()) => list_block(number, ledger, block, out),
+        Err(_) => {
+            put_stop(number, next, out);
+            false
+        }
+    }
+}
+
 // A listing, whose state is the ledger.
 #[derive(Drop)]
 pub struct Listing {
@@ -164,14 +196,9 @@ impl Steps<LINES_BYTES> for Listing {
 
     ghost holds = { λ number ledger. Unit {0} };
 
-    // Opens or settles a block. The number says which, as in the definition: two programs over one stream, one for the
-    // opening and one for what follows, would not be plainer.
+    // Opens or settles a block.
     fn block(&mut self, number: u64, block: &[u8], out: &mut ArrayVec<u8, LINES_BYTES>) -> bool {
-        if number != 0 {
-            list_interval(number, &mut self.ledger, block, out);
-            return true;
-        }
-        list_opening(&mut self.ledger, block, out)
+        list_block(number, &mut self.ledger, block, out)
     }
 
     fn stop(&self, number: u64, end: End, out: &mut ArrayVec<u8, LINES_BYTES>) {

@@ -1,7 +1,7 @@
 -- The laws of the page's steps: the id word, the opening, an interval, and the end.
 use Prim.Native.Nat.{ℕ, ◌+◌, ◌≤◌, ◌<◌}
 use mathlib.Core.Path.{◌≡◌, refl, sym, ap, ap₂, ◌∙◌, subst}
-use mathlib.Core.List.{List, [], ◌∷◌, ◌++◌, map, append-nil}
+use mathlib.Core.List.{List, [], ◌∷◌, ◌++◌, map, append_assoc, append-nil}
 use mathlib.Core.Bool.{Bool, true, false, not, cond, ◌&&◌}
 use native.Mathlib.Nat.{zero-add}
 use native.Mathlib.Omega.{arith}
@@ -251,6 +251,17 @@ pub end_later : (id number : ℕ) (s : PageState) (e : End) → (number ≡ 0 �
 unfolding page_end
 end_later id number s e later = sym (rw (ne_eqb number 0 later))
 
+-- and their bytes, once the line of the end and then the year line are put
+pub ended_later : (id number : ℕ) (s : PageState) (e : End) (before x out : List ℕ) → (number ≡ 0 → ⊥)
+    → x ≡ before ++ bytes_of_lines (end_lines number e)
+    → out ≡ x ++ bytes_of_line (Line.year (year_of id s.shortfall s.bonus s.ledger))
+    → out ≡ before ++ bytes_of_lines (page_end id number s e)
+unfolding year_lines
+ended_later id number s e before x out later put year =
+    let both = lines_append (end_lines number e) (year_lines id s)
+    ∙ ap (λ b. bytes_of_lines (end_lines number e) ++ b) (sym (one_line _)) in
+    rw (year, put, append_assoc) (ap (λ b. before ++ b) (sym both ∙ ap bytes_of_lines (end_later id number s e later)))
+
 -- those at one at the opening are the listing's
 pub end_first : (id number : ℕ) (s : PageState) (e : End) → number ≡ 0 → page_end id number s e ≡ end_lines number e
 unfolding page_end
@@ -284,13 +295,11 @@ pub stopped_later : (number : ℕ) (p : Paged) (before x out : List ℕ) (e : En
     → (number ≡ 0 → ⊥) → before ≡ [] → x ≡ before ++ bytes_of_lines (end_lines number e)
     → out ≡ x ++ bytes_of_line (Line.year (year_of p.id p.state.shortfall p.state.bonus p.state.ledger))
     → StepTaken (plant_step number p (Next.stop e)) p [] out false
-unfolding plant_step step page_steps in_bytes year_lines
+unfolding plant_step step page_steps in_bytes
 stopped_later number p before x out e later none put year =
-    let both = lines_append (end_lines number e) (year_lines p.id p.state)
-    ∙ ap (λ b. bytes_of_lines (end_lines number e) ++ b) (sym (one_line _)) in
     record {
       leaves = refl;
-      puts = rw (year, put, none) (sym both ∙ ap bytes_of_lines (end_later p.id number p.state e later));
+      puts = rw none at (ended_later p.id number p.state e before x out later put year);
       goes_on = refl;
     }
 

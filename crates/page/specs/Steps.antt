@@ -1,8 +1,8 @@
 -- A plant's page block by block, with the ledger and two sums as the state.
 use Rattle.std.specs.Prelude.{ℕ, ◌+◌, List, [], ◌∷◌, ◌++◌, true, false, cond, not, ◌&&◌, length, ltb, eqb}
 use Rattle.words.specs.Words.{number}
-use Rattle.stream.specs.Stream.{End}
-use Rattle.stream.specs.Steps.{Outcome, Steps}
+use Rattle.stream.specs.Stream.{End, next_block}
+use Rattle.stream.specs.Steps.{Outcome, Steps, step}
 use Rattle.listing.specs.Lines.{Line}
 use Rattle.listing.specs.Npalist.{ledger_buffer, opening_listed, interval_listed, most_bytes, end_lines}
 use Rattle.page.specs.Page.{id_word_bytes, outside_roster, chosen, summed, year_of, on_roster}
@@ -72,3 +72,7 @@ page_end id number s e = cond (eqb number 0) (end_lines number e) (end_lines num
 -- the steps over a plant's page
 unfoldable pub page_steps : ℕ → Steps Line PageState
 page_steps id = record { most = most_bytes; block = page_block id; last = page_end id }
+
+-- the step on what comes next in a stream s
+abbrev pub next_paged : ℕ → ℕ → PageState → List ℕ → Outcome Line PageState
+next_paged id number p s = step (page_steps id) number p (next_block (most_bytes number) s)

@@ -4,14 +4,15 @@
 ghost use Rattle.std.specs.Prelude.{◌≡◌, true, false, [], ◌++◌, ◌+◌, ◌≤◌, ◌<◌, ◌^◌, length, drop, MatchOption};
 ghost use Rattle.arrayvec.specs.ArrayVec.{array_vec_len};
 ghost use Rattle.words.specs.Words.{word64};
+ghost use Rattle.stream.specs.Stream.{length_bytes, bytes_due};
 ghost use Rattle.stream.specs.Code.{StepTaken};
 ghost use Rattle.reading.specs.Interval.{most_rows};
 ghost use Rattle.settling.specs.Settling.{result_bytes};
-ghost use Rattle.listing.specs.Npalist.{interval_listed};
+ghost use Rattle.listing.specs.Npalist.{most_bytes, interval_listed};
 ghost use Rattle.listing.specs.Code.{in_bytes};
 ghost use Rattle.listing.specs.Room.{cut_room, row_room, refused_room, most_blocks};
 ghost use Rattle.page.specs.Page.{id_word_bytes};
-ghost use Rattle.page.specs.Steps.{page_start, no_lines, id_outcome, page_outcome, page_opening};
+ghost use Rattle.page.specs.Steps.{page_start, no_lines, id_outcome, page_outcome, page_opening, next_paged};
 ghost use Rattle.page.specs.Code.{state_in, plant_step, YearLedger, PageFits, RowPaged, PageMayGoOn};
 
 use crate::account::has_account;
@@ -21,13 +22,13 @@ use ledger::ground_six::Ledger;
 use ledger::layout::MOST_LEDGER_BYTES;
 use listing::blocks::list_opening;
 use listing::lines::{ROW_ROOM, put_cut, put_refused, put_row_line};
-use listing::steps::{Steps, put_stop};
+use listing::steps::{Steps, most_bytes, put_stop};
 use reading::file::File;
 use reading::header::header_of;
 use settling::call::settle_file;
 use settling::result::{MOST_RESULT_BYTES, balance_at, row_part};
 use std::marker::Model;
-use stream::End;
+use stream::{End, next_block};
 use words::Word;
 use words::refusal::Refusal;
 
@@ -72,6 +73,32 @@ pub fn open_page<const ROOM: usize>(
     }
     put_refused(out, 0, u64::from(Refusal::OutsideRoster.number()));
     false
+}
+
+// Takes the step on what was read for the opening, for any ledger that is lent and behind what the vector holds;
+// answers whether the page goes on.
+pub fn page_opening<const ROOM: usize>(
+    id: u64,
+    ledger: &mut [u8],
+    head: &[u8],
+    block: &[u8],
+    out: &mut ArrayVec<u8, ROOM>,
+) -> bool
+    requires head_in_bounds { length head.now ≤ length_bytes }
+    requires block_in_bounds { length block.now ≤ bytes_due (most_bytes 0) head.now }
+    requires room { array_vec_len out.old + refused_room ≤ ROOM }
+    ensures step_taken { StepTaken (in_bytes (next_paged id 0 (no_lines ledger.old) (head.now ++ block.now)))
+        (no_lines ledger.new) out.old.items out.new.items result }
+    ensures year_ledger { result ≡ true → YearLedger ledger.new }
+{
+    let next = next_block(most_bytes(0), head, block);
+    match next {
+        Ok(()) => open_page(id, ledger, block, out),
+        Err(_) => {
+            put_stop(0, next, out);
+            false
+        }
+    }
 }
 
 // Puts the plant's line, of row i of a result, and adds its figures.
@@ -124,6 +151,44 @@ pub fn page_interval<const ROOM: usize>(
     };
     if let Some(i) = row_of(&file, page.id) {
         page_row(page, file.header.interval, i, &res, out);
+    }
+}
+
+// Takes the step on what was read for an interval, for any ledger of a year that is lent and behind what the vector
+// holds; answers whether the page goes on.
+pub fn page_next<const ROOM: usize>(
+    number: u64,
+    page: &mut Page,
+    ledger: &mut [u8],
+    head: &[u8],
+    block: &[u8],
+    out: &mut ArrayVec<u8, ROOM>,
+) -> bool
+    requires after_opening { 0 < number }
+    requires few_blocks { number < most_blocks }
+    requires page_fits { PageFits number (state_in ledger.old page.old) }
+    requires year_ledger { YearLedger ledger.old }
+    requires head_in_bounds { length head.now ≤ length_bytes }
+    requires block_in_bounds { length block.now ≤ bytes_due (most_bytes number) head.now }
+    requires room { array_vec_len out.old + row_room ≤ ROOM }
+    ensures step_taken { StepTaken
+        (in_bytes (next_paged page.old.id number (state_in ledger.old page.old) (head.now ++ block.now)))
+        (state_in ledger.new page.new) out.old.items out.new.items result }
+    ensures same_plant { page.new.id ≡ page.old.id }
+    ensures page_fits_on { PageFits (number + 1) (state_in ledger.new page.new) }
+    ensures year_ledger_on { YearLedger ledger.new }
+{
+    let next = next_block(most_bytes(number), head, block);
+    match next {
+        Ok(()) => {
+            page_interval(number, page, ledger, block, out);
+            true
+        }
+        Err(_) => {
+            put_stop(number, next, out);
+            put_year(out, *page, Ledger::held(ledger));
+            false
+        }
     }
 }
 

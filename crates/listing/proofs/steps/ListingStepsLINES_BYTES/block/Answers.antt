@@ -1,11 +1,6 @@
--- The step of a listing on a block meets its contract. The number decides whether it is opened or settled.
-use Rattle.listing.proofs.EndLaws.{opening_taken, interval_taken}
+-- The step of a listing on a block meets its contract. The block is opened or settled in the listing's own ledger.
+use Rattle.listing.proofs.EndLaws.{block_taken}
 use Rattle.listing.proofs.steps.ListingStepsLINES_BYTES.block.Goals as goal
 
-pub returns-then-number-ne0-clause-taken : goal.returns-then-number-ne0-clause-taken
-returns-then-number-ne0-clause-taken c =
-    interval_taken _ _ _ _ _ _ _ _ c.if-number-ne0.true c.self.view_is c.requires.empty c.list_interval.ensures
-
 pub returns-clause-taken : goal.returns-clause-taken
-returns-clause-taken c =
-    opening_taken _ _ _ _ _ _ _ _ c.if-number-ne0.false c.self.view_is c.requires.empty c.list_opening.ensures
+returns-clause-taken c = block_taken _ _ _ _ _ _ _ _ c.self.view_is c.requires.empty c.list_block.ensures
