@@ -29,8 +29,10 @@ use std::marker::Model;
 use stream::{End, next_block};
 use words::refusal::Refusal;
 
-// The longest block, and the lines of the most rows.
+// The buffers of a listing: the longest block, a ledger of the most accounts, and the lines of the most rows.
 pub const BLOCK_BYTES: usize = MOST_FILE_BYTES;
+
+pub const LEDGER_BYTES: usize = MOST_LEDGER_BYTES;
 
 pub const LINES_BYTES: usize = MOST_ROWS * ROW_ROOM + POOL_ROOM;
 

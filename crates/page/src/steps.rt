@@ -22,6 +22,7 @@ use ledger::ground_six::Ledger;
 use ledger::layout::MOST_LEDGER_BYTES;
 use listing::blocks::list_opening;
 use listing::lines::{ROW_ROOM, put_cut, put_refused, put_row_line};
+pub use listing::steps::MOST_BLOCKS;
 use listing::steps::{Steps, most_bytes, put_stop};
 use reading::file::File;
 use reading::header::header_of;
