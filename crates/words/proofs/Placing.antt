@@ -72,16 +72,16 @@ pub bytes_all : (at left v : ℕ) (b goal : List ℕ) → placed_at at (bytes_of
 unfolding bytes_of
 bytes_all at left v b goal all none = place_end at (bytes_of left v) b goal (ap (λ k. bytes_of k v) none) all
 
--- one turn of writing words of n bytes
-pub words_turn : (n at i next : ℕ) (ws b x goal : List ℕ) → placed_at at (bytes_of_words n (drop i ws)) b ≡ goal
+-- one turn of writing words of n bytes, each put at its place
+pub words_turn : (n at place i next : ℕ) (ws b x goal : List ℕ) → placed_at at (bytes_of_words n (drop i ws)) b ≡ goal
     → i < length ws → at + n ≤ length b
-    → x ≡ placed_at at (bytes_of n (get_or ws i 0)) b → next ≡ at + n
+    → x ≡ placed_at place (bytes_of n (get_or ws i 0)) b → place ≡ at → next ≡ at + n
     → placed_at next (bytes_of_words n (drop (i + 1) ws)) x ≡ goal
 unfolding bytes_of_words
-words_turn n at i next ws b x goal left more room put behind =
+words_turn n at place i next ws b x goal left more room put there behind =
     let long = length_bytes_of n (get_or ws i 0) in
-    place_turn (bytes_of_words n) (bytes_of n) (λ w ws. refl) at i next ws 0 b x goal left more (omega (arith, long)) put
-    (omega (arith, long))
+    place_turn (bytes_of_words n) (bytes_of n) (λ w ws. refl) at i next ws 0 b x goal left more (omega (arith, long))
+    (rw there at put) (omega (arith, long))
 
 -- where all words are written, nothing is left
 pub words_all : (n at i : ℕ) (ws b goal : List ℕ) → placed_at at (bytes_of_words n (drop i ws)) b ≡ goal → length ws ≤ i
