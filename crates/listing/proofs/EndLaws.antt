@@ -8,7 +8,7 @@ use borrow.Author.Tests.{eq-eqb, ne_eqb}
 use Rattle.stream.specs.Stream.{End, Next}
 use Rattle.stream.specs.Steps.{Outcome, step}
 use Rattle.stream.specs.Code.{StepTaken}
-use Rattle.listing.specs.Npalist.{block_listed, end_lines, listing_steps}
+use Rattle.listing.specs.Npalist.{opening_listed, interval_listed, block_listed, end_lines, listing_steps}
 use Rattle.listing.specs.Lines.{bytes_of_lines}
 use Rattle.listing.specs.Code.{in_bytes}
 
@@ -32,6 +32,23 @@ pub block_taken : (number : ℕ) (l m block before out after : List ℕ) (on : B
 unfolding step listing_steps
 block_taken number l m block before out after on same none taken =
     taken_as _ _ after before out on none (ap (λ l. in_bytes (block_listed number l block)) (sym same)) taken
+
+-- on the opening, once it is opened
+pub opening_taken : (number : ℕ) (l m block before out after : List ℕ) (on : Bool) → number ≡ 0 → m ≡ l → before ≡ []
+    → StepTaken (in_bytes (opening_listed m block)) after before out on
+    → StepTaken (in_bytes (step listing_steps number l (Next.block block []))) after [] out on
+unfolding block_listed
+opening_taken number l m block before out after on first same none taken =
+    block_taken number l m block before out after on same none (rw (at_first number _ _ first) taken)
+
+-- and on an interval block, once it is settled
+pub interval_taken : (number : ℕ) (l m block before out after : List ℕ) (on : Bool) → (number ≡ 0 → ⊥) → m ≡ l
+    → before ≡ []
+    → StepTaken (in_bytes (interval_listed number m block)) after before out on
+    → StepTaken (in_bytes (step listing_steps number l (Next.block block []))) after [] out on
+unfolding block_listed
+interval_taken number l m block before out after on later same none taken =
+    block_taken number l m block before out after on same none (rw (at_later number _ _ later) taken)
 
 -- and where the stream stops, once its line is put
 pub end_taken : (number : ℕ) (l before out : List ℕ) (e : End) → before ≡ []

@@ -44,8 +44,8 @@ pub trait Steps<const ROOM: usize> {
     // what it prints on what comes next, what it leaves, and whether it goes on
     ghost outcome: { ℕ → Self → Next → Outcome ℕ Self };
 
-    // how it begins, before any block
-    ghost begins: { Self → Type 0 };
+    // how it begins, before any block; of steps that say nothing of it, anyhow
+    ghost begins: { Self → Type 0 } = { λ steps. Unit {0} };
 
     // what holds before the step of a block
     ghost holds: { ℕ → Self → Type 0 };

@@ -12,7 +12,7 @@ ghost use Rattle.page.specs.Steps.{id_outcome};
 use arrayvec::ArrayVec;
 use listing::lines::put_heading;
 use page::steps::{ID_WORD_BYTES, Paging, STEP_ROOM, page_id};
-use standard::{print, read_word, run};
+use standard::{print, read_word, run_from_beginning};
 
 // Reads the id word, and takes the step on it; answers what was read, and the id.
 fn id_step<'a>(word: &'a mut [u8], out: &mut ArrayVec<u8, STEP_ROOM>) -> (&'a [u8], Option<u64>)
@@ -42,6 +42,6 @@ fn main() {
     }
     if let Some(id) = id {
         let mut paging = Paging::new(id);
-        run(&mut paging, &mut out);
+        run_from_beginning(&mut paging, &mut out);
     }
 }
