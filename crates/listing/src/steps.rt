@@ -44,7 +44,7 @@ pub trait Steps<const ROOM: usize> {
     // what it prints on what comes next, what it leaves, and whether it goes on
     ghost outcome: { ℕ → Self → Next → Outcome ℕ Self };
 
-    // how it begins, before any block; of steps that say nothing of it, anyhow
+    // how it begins, before any block; where a program says nothing of it, in any state
     ghost begins: { Self → Type 0 } = { λ steps. Unit {0} };
 
     // what holds before the step of a block

@@ -86,13 +86,9 @@ pub fn next_step<'a, const ROOM: usize, S: Steps<ROOM>>(
 }
 
 // Takes step after step from the first block, and prints what each puts, until one stops or the output is closed. The
-// steps stand at their beginning, so that a program does not take them up where an earlier stream has left them.
-pub fn run_from_beginning<const ROOM: usize, S: Steps<ROOM>>(
-    steps: &mut S,
-    out: &mut ArrayVec<u8, ROOM>,
-)
-    requires begins { S.begins steps.old }
-    requires held { S.holds 0 steps.old }
+// steps may stand where an earlier stream has left them: only what holds before the first block is asked.
+pub fn run<const ROOM: usize, S: Steps<ROOM>>(steps: &mut S, out: &mut ArrayVec<u8, ROOM>)
+    requires { S.holds 0 steps.old }
 {
     let mut head = [0; LENGTH_BYTES];
     let mut block = [0; BLOCK_BYTES];
@@ -105,17 +101,13 @@ pub fn run_from_beginning<const ROOM: usize, S: Steps<ROOM>>(
     }
 }
 
-// The same for steps that are taken up where they stand: of them only what holds before the first block is asked.
-pub fn run<const ROOM: usize, S: Steps<ROOM>>(steps: &mut S, out: &mut ArrayVec<u8, ROOM>)
-    requires { S.holds 0 steps.old }
+// The same, asked of steps that stand at their beginning. A program that takes one stream is to call this one.
+pub fn run_from_beginning<const ROOM: usize, S: Steps<ROOM>>(
+    steps: &mut S,
+    out: &mut ArrayVec<u8, ROOM>,
+)
+    requires begins { S.begins steps.old }
+    requires held { S.holds 0 steps.old }
 {
-    let mut head = [0; LENGTH_BYTES];
-    let mut block = [0; BLOCK_BYTES];
-    for number in 0..MOST_BLOCKS {
-        out.clear();
-        let (_, more) = next_step(steps, number, &mut head, &mut block, out);
-        if !print(out.as_slice()) || !more {
-            return;
-        }
-    }
+    run(steps, out);
 }
